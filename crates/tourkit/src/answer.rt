@@ -6,6 +6,25 @@ use std::io::{self, Stdout, Write};
 use std::process::ExitCode;
 use tk_engines::Fault;
 
+/// Why an answer was not printed.
+#[derive(Clone, Copy, PartialEq, Eq)]
+pub enum Unprinted {
+    /// Standard output took no more.
+    Unwritten,
+    /// Memory ran out.
+    NoMemory,
+}
+
+impl Unprinted {
+    /// Reports it.
+    pub fn report(self, rt: &HostRuntime) -> ExitCode {
+        match self {
+            Unprinted::Unwritten => report::write_fault(rt),
+            Unprinted::NoMemory => report::no_memory(rt),
+        }
+    }
+}
+
 /// Where the lines of an answer go.
 #[derive(Drop)]
 pub enum Answer {
@@ -27,25 +46,25 @@ impl Answer {
     /// Prints what is in memory as JSON.
     ///
     /// # Errors
-    /// The exit status, after a message.
-    pub fn print(&self, rt: &HostRuntime) -> Result<(), ExitCode> {
+    /// Why it was not printed.
+    pub fn try_print(&self, rt: &HostRuntime) -> Result<(), Unprinted> {
         let Answer::Json(lines) = self else {
             return Ok(());
         };
         let Ok(text) = object_of(rt.alloc(), lines) else {
-            return Err(report::no_memory(rt));
+            return Err(Unprinted::NoMemory);
         };
         match rt.stdout().write_all(text.as_bytes()) {
             Ok(()) => Ok(()),
-            Err(_) => Err(report::write_fault(rt)),
+            Err(_) => Err(Unprinted::Unwritten),
         }
     }
 
     /// Prints what is in memory as JSON, and ends with this status.
     pub fn end(&self, rt: &HostRuntime, status: ExitCode) -> ExitCode {
-        match self.print(rt) {
+        match self.try_print(rt) {
             Ok(()) => status,
-            Err(status) => status,
+            Err(unprinted) => unprinted.report(rt),
         }
     }
 
@@ -58,16 +77,16 @@ impl Answer {
         fault: &Fault,
     ) -> ExitCode {
         match fault {
-            Fault::Write(_) => self.unwritten(rt),
+            Fault::Write(_) => self.unwritten().report(rt),
             fault => report::stopped_by_claim(rt, problem_file, claim_file, fault),
         }
     }
 
-    /// Tells that a line could not be written: in memory, only where there is no more of it.
-    pub fn unwritten(&self, rt: &HostRuntime) -> ExitCode {
+    /// Why a line could not be written: in memory, only because there is no more of it.
+    pub fn unwritten(&self) -> Unprinted {
         match self {
-            Answer::Lines(_) => report::write_fault(rt),
-            Answer::Json(_) => report::no_memory(rt),
+            Answer::Lines(_) => Unprinted::Unwritten,
+            Answer::Json(_) => Unprinted::NoMemory,
         }
     }
 }

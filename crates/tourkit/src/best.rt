@@ -1,8 +1,8 @@
-//! The best tour of a long search, kept in a file beside the one that the search will write.
-use crate::output::{make_part, put_in_place};
-use crate::written::{Kept, id_of};
+//! The best tour of a long search, kept in a file next to the one that the search will write.
+use crate::best_place::BestPlace;
+use crate::search::Search;
+use crate::written::Kept;
 use std::alloc::AllocError;
-use std::fs::{self, File};
 use std::time::{Clock, Duration};
 use tk_solve::Progress;
 use tk_writers::{ToWrite, write_tour};
@@ -10,16 +10,14 @@ use tk_writers::{ToWrite, write_tour};
 /// The tour is saved for the first time after this many seconds, and then again after as many at the earliest.
 const PAUSE: u64 = 5;
 
-/// The file of the best tour so far.
+/// The best tour so far, and the place where it is saved.
 #[derive(Drop)]
 pub struct BestFile<'a> {
     rt: &'a HostRuntime,
-    /// Its name, where it can be used.
-    name: Option<String>,
+    /// Where it is saved. Nothing is saved if the search has no such place.
+    place: Option<BestPlace<'a>>,
     /// The name of the problem.
     problem: Vec<u8>,
-    /// Whether it stays when the search has written its own, since the search began from it.
-    stays: bool,
     /// The shortest of the tours with which runs have ended, and its length.
     ended: Vec<u32>,
     ended_length: i64,
@@ -30,54 +28,37 @@ pub struct BestFile<'a> {
 }
 
 impl<'a> BestFile<'a> {
-    /// Nothing is saved yet. Nothing will be where the search writes no tour, or to what is no plain file, or where the
-    /// file would be one that is kept. It may be the initial tour's: what is saved is never longer than that.
+    /// Nothing is saved yet.
     ///
     /// # Errors
     /// `AllocError` if memory runs out.
     pub fn new(
         rt: &'a HostRuntime,
-        tour_file: Option<&str>,
+        search: &Search<'_, 'a>,
         kept: Kept,
     ) -> Result<BestFile<'a>, AllocError> {
-        let mut best = BestFile {
+        Ok(BestFile {
             rt,
-            name: None,
+            place: BestPlace::of(rt, search, kept)?,
             problem: Vec::new(rt.alloc()),
-            stays: false,
             ended: Vec::new(rt.alloc()),
             ended_length: i64::MAX,
             saved: i64::MAX,
             next: pause_from(rt),
-        };
-        if let Some(tour_file) = tour_file {
-            best.name_beside(tour_file, kept)?;
-        }
-        Ok(best)
+        })
     }
 
-    /// Takes the name beside the file that the search writes, where it can be used.
-    fn name_beside(&mut self, tour_file: &str, kept: Kept) -> Result<(), AllocError> {
-        let name = format!(in self.rt.alloc(); "{tour_file}.best")?;
-        let found = id_of(fs::metadata(self.rt, &name));
-        if !kept.has_to_stay(found) && is_plain(self.rt, tour_file) && is_plain(self.rt, &name) {
-            self.stays = kept.is_initial(found);
-            self.name = Some(name);
-        }
-        Ok(())
-    }
-
-    /// Takes note of the problem's name. Nothing is saved where there is no memory for it.
+    /// Notes the name of the problem. Nothing is saved if memory runs out.
     pub fn begin(&mut self, problem: &[u8]) {
         if self.problem.extend_from_slice(problem).is_err() {
-            self.name = None;
+            self.place = None;
         }
     }
 
-    /// Saves the best tour so far where it is shorter than the one that is saved, and the pause has passed. At the end
-    /// of a run it is kept, or, where one is saved already, saved.
+    /// Saves the best tour so far if it is shorter than the one that is saved and the pause has passed. At the end of a
+    /// run it is kept in memory or, if one is saved already, saved.
     pub fn trial(&mut self, progress: &Progress, best: &[u32]) {
-        if self.name.is_none() {
+        if self.place.is_none() {
             return;
         }
         let ends = progress.trial == progress.trials;
@@ -89,7 +70,7 @@ impl<'a> BestFile<'a> {
         }
     }
 
-    /// Saves a tour where the pause has passed, or, at the end of a run, where one is saved already.
+    /// Saves a tour if the pause has passed, or, at the end of a run, if one is saved already.
     fn save_in_time(&mut self, length: i64, cities: &[u32], ends: bool) {
         let Ok(now) = self.rt.monotonic() else {
             return;
@@ -100,56 +81,64 @@ impl<'a> BestFile<'a> {
         }
     }
 
-    /// Keeps the tour with which a run has ended. Nothing more is saved where there is no memory for it.
+    /// Keeps the tour with which a run has ended. Nothing more is saved if memory runs out.
     fn keep(&mut self, length: i64, cities: &[u32]) {
         self.ended.clear();
         if self.ended.extend_from_slice(cities).is_err() {
-            self.name = None;
+            self.place = None;
         }
         self.ended_length = length;
     }
 
-    /// Saves the tour, or the one that is kept where that is shorter.
+    /// Saves the tour, or the one that is kept if that is shorter.
     fn save(&mut self, length: i64, cities: &[u32]) {
         let shortest = self.ended_length.min(length);
+        let Some(place) = &mut self.place else {
+            return;
+        };
+        if !place.takes(shortest) {
+            return;
+        }
         let saved = if self.ended_length < length {
-            self.replace(shortest, &self.ended)
+            put_tour(self.rt, place, &self.problem, shortest, &self.ended)
         } else {
-            self.replace(shortest, cities)
+            put_tour(self.rt, place, &self.problem, shortest, cities)
         };
         if saved {
             self.saved = shortest;
         }
     }
 
-    /// Writes the tour to a new file that then takes the old one's place. It says whether that was done.
-    fn replace(&self, length: i64, cities: &[u32]) -> bool {
-        let Some(name) = &self.name else {
-            return false;
-        };
-        let Ok((part, file)) = make_part(self.rt, name) else {
-            return false;
-        };
-        if !fill(file, &self.problem, length, cities) {
-            let _ = fs::remove_file(self.rt, &part);
-            return false;
+    /// Keeps the text of the whole search's result, which could not be printed. It returns the name of the file with
+    /// it, if it could be saved.
+    pub fn keep_result(&mut self, text: &[u8]) -> Option<&str> {
+        let place = self.place.as_mut()?;
+        let length = place.length_of(text);
+        if place.takes(length) && place.put(text) {
+            Some(place.name())
+        } else {
+            None
         }
-        put_in_place(self.rt, &part, name).is_ok()
     }
 
-    /// Takes the file away, once the search has written its own, unless the search began from it.
+    /// Removes the file, once the search has written its own.
     pub fn remove(&self) {
-        if let Some(name) = &self.name {
-            if self.saved < i64::MAX && !self.stays {
-                let _ = fs::remove_file(self.rt, name);
-            }
+        if let Some(place) = &self.place {
+            place.remove();
         }
     }
 }
 
-/// Whether a name stands for a plain file, or for none yet.
-fn is_plain(rt: &HostRuntime, name: &str) -> bool {
-    fs::metadata(rt, name).map_or(true, |found| found.is_file())
+/// Puts a tour into its place. It returns whether that could be done.
+fn put_tour(
+    rt: &HostRuntime,
+    place: &mut BestPlace<'_>,
+    problem: &[u8],
+    length: i64,
+    cities: &[u32],
+) -> bool {
+    let mut text = ToWrite::new(Vec::new(rt.alloc()));
+    length >= 0 && write_tour(&mut text, problem, length, cities).is_ok() && place.put(&text.inner)
 }
 
 /// When the first tour may be saved.
@@ -158,12 +147,4 @@ fn pause_from(rt: &HostRuntime) -> Duration {
         Ok(now) => now.saturating_add(Duration::from_secs(PAUSE)),
         Err(_) => Duration::ZERO,
     }
-}
-
-/// Writes a tour to a new file and waits until the disk has it. It says whether that was done.
-fn fill(file: File, problem: &[u8], length: i64, cities: &[u32]) -> bool {
-    let mut file = ToWrite::new(file);
-    length >= 0
-        && write_tour(&mut file, problem, length, cities).is_ok()
-        && file.inner.sync_all().is_ok()
 }

@@ -1,6 +1,6 @@
 //! The input files of a command, one of which may be standard input.
+use crate::file_id::{FileId, id_of};
 use crate::report;
-use crate::written::{FileId, id_of};
 use std::fs::{self, File};
 use std::io::{self, Read, Stdin};
 use std::os::fd::AsFd;

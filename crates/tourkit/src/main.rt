@@ -3,16 +3,22 @@
 
 mod answer;
 mod best;
+mod best_place;
 mod call;
 mod commands;
 mod embedded;
+mod explained_text;
+mod file_id;
 mod input;
 mod json;
 mod json_lines;
+mod judged;
 mod output;
+mod part;
 mod progress;
 mod report;
 mod search;
+mod shown;
 mod watching;
 mod words;
 mod written;

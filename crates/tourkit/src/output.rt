@@ -1,103 +1,128 @@
 //! The file that `solve` writes.
+use crate::file_id::{FileId, id_of};
+use crate::part::{Part, Unsaved, hindered, replace};
 use crate::report;
-use std::alloc::AllocError;
-use std::fs::{self, File, Metadata, Permissions};
+use std::fs::{self, File, Metadata};
 use std::io::{self, ErrorKind, Seek, SeekFrom, Write};
-use std::process::{self, ExitCode};
+use std::path::{Path, PathBuf};
+use std::process::ExitCode;
 
-/// How many names are tried for the file that is written first.
-const NAMES: u32 = 100;
+/// How many links are followed from a name to the file that does not exist yet.
+const LINKS: u32 = 40;
 
-/// Why a text was not saved.
+/// What a name leads to.
 #[derive(Drop)]
-pub enum Unsaved {
-    /// No other file could be made beside the file, or put in its place.
-    NoOther,
-    /// The file could not be opened.
-    Unopened,
-    /// The text could not be written.
-    Unwritten,
-    /// There was no memory.
-    NoMemory,
+enum Target {
+    /// A plain file, open for writing, with its bytes.
+    Plain(File),
+    /// A device, a pipe or a socket.
+    Special,
+    /// A link to a file that does not exist.
+    Dangling,
+    /// Nothing.
+    Nothing,
 }
 
-/// Finds out, before a search, whether its text can be saved under a name. A file that is not there can be made where
-/// another one can be made beside it, which is taken away again. Of a link that leads nowhere nothing is found out.
+/// Finds out, before a search, whether its text can be saved under a name. A file that does not exist can be created if
+/// another one can be created next to it, which is removed again.
 ///
 /// # Errors
 /// The exit status, after a message.
 pub fn find_place(rt: &HostRuntime, name: &str) -> Result<(), ExitCode> {
-    let found = match fs::canonicalize(rt, name) {
-        Ok(path) => find_old(rt, path.as_str()),
-        Err(error) if error.kind() == ErrorKind::OutOfMemory => Err(Unsaved::NoMemory),
-        Err(_) => find_new(rt, name),
-    };
-    found.map_err(|unsaved| tell(rt, name, unsaved))
+    try_place(rt, name).map_err(|unsaved| report_unsaved(rt, name, unsaved))
 }
 
-/// Whether a file that is there can be written. What is no plain file is not touched.
-fn find_old(rt: &HostRuntime, path: &str) -> Result<(), Unsaved> {
-    let found = look_at(rt, path)?;
-    if found.is_dir() {
+/// Whether a text can be saved under a name.
+fn try_place(rt: &HostRuntime, name: &str) -> Result<(), Unsaved> {
+    match target_of(rt, name)? {
+        Target::Plain(_) | Target::Special => Ok(()),
+        Target::Dangling => try_part(rt, end_of_links(rt, name)?.as_str()),
+        Target::Nothing => try_part(rt, name),
+    }
+}
+
+/// Whether a file can be created at a path.
+fn try_part(rt: &HostRuntime, path: &str) -> Result<(), Unsaved> {
+    if path.is_empty() {
         return Err(Unsaved::Unopened);
     }
-    if found.is_file() {
-        open_old(rt, path)?;
-    }
+    Part::next_to(rt, path, None)?.remove(rt);
     Ok(())
 }
 
-/// What is known of a file that is there.
-fn look_at(rt: &HostRuntime, path: &str) -> Result<Metadata, Unsaved> {
-    match fs::metadata(rt, path) {
-        Ok(found) => Ok(found),
+/// What a name leads to. The system follows its links, so that it can refuse those that it does not trust.
+fn target_of(rt: &HostRuntime, name: &str) -> Result<Target, Unsaved> {
+    match fs::metadata(rt, name) {
+        Ok(found) if found.is_dir() => Err(Unsaved::Unopened),
+        Ok(found) if found.is_file() => Ok(Target::Plain(open_old(rt, name)?)),
+        Ok(_) => Ok(Target::Special),
+        Err(error) if error.kind() == ErrorKind::NotFound => missing(rt, name),
         Err(error) => Err(unopened(error.kind())),
     }
 }
 
-/// Opens a file that is there, which keeps its bytes.
-fn open_old(rt: &HostRuntime, path: &str) -> Result<File, Unsaved> {
-    match File::options().write(true).open(rt, path) {
+/// What a name leads to whose file does not exist.
+fn missing(rt: &HostRuntime, name: &str) -> Result<Target, Unsaved> {
+    match fs::symlink_metadata(rt, name) {
+        Ok(_) => Ok(Target::Dangling),
+        Err(error) if error.kind() == ErrorKind::NotFound => Ok(Target::Nothing),
+        Err(error) => Err(unopened(error.kind())),
+    }
+}
+
+/// Opens a file that exists, which keeps its bytes. The call would create it if it did not exist, since in a directory
+/// for everybody the system protects files of others from such calls.
+fn open_old(rt: &HostRuntime, name: &str) -> Result<File, Unsaved> {
+    match File::options().write(true).create(true).open(rt, name) {
         Ok(file) => Ok(file),
         Err(error) => Err(unopened(error.kind())),
     }
 }
 
-/// Whether a file that is not there can be made.
-fn find_new(rt: &HostRuntime, name: &str) -> Result<(), Unsaved> {
-    if is_taken(rt, name)? {
-        return Ok(());
+/// The path that a link leads to, by way of other links, if nothing exists there.
+fn end_of_links(rt: &HostRuntime, name: &str) -> Result<PathBuf, Unsaved> {
+    let mut path = named_by_link(rt, name)?;
+    for _ in 0..LINKS {
+        match missing(rt, path.as_str())? {
+            Target::Dangling => path = named_by_link(rt, path.as_str())?,
+            _ => return Ok(path),
+        }
     }
-    let (part, _) = make_part(rt, name)?;
-    let _ = fs::remove_file(rt, &part);
-    Ok(())
+    Err(Unsaved::Unopened)
 }
 
-/// Whether a name stands for anything, if only for a link that leads nowhere.
-fn is_taken(rt: &HostRuntime, name: &str) -> Result<bool, Unsaved> {
-    match fs::symlink_metadata(rt, name) {
-        Ok(_) => Ok(true),
-        Err(error) if error.kind() == ErrorKind::NotFound => Ok(false),
-        Err(error) => Err(unopened(error.kind())),
+/// The path that a link names, which is relative to the directory of the link.
+fn named_by_link(rt: &HostRuntime, link: &str) -> Result<PathBuf, Unsaved> {
+    let target = match fs::read_link(rt, link) {
+        Ok(target) => target,
+        Err(error) => return Err(unopened(error.kind())),
+    };
+    match Path::new(link).with_file_name(rt.alloc(), target.as_str()) {
+        Ok(path) => Ok(path),
+        Err(_) => Err(Unsaved::NoMemory),
     }
 }
 
-/// Writes a text to a file. A plain file that is there is not touched until all new bytes are written beside it, or,
-/// where no other file can be made there, until there is room for them. A device or a pipe is written directly.
+/// Writes a text to a file. A plain file is not touched until all new bytes have been written next to it, or, if no
+/// other file can be created there, until there is room for them. A device or a pipe is written directly.
 ///
 /// # Errors
 /// The exit status, after a message.
 pub fn save(rt: &HostRuntime, name: &str, text: &[u8]) -> Result<(), ExitCode> {
-    let saved = match fs::canonicalize(rt, name) {
-        Ok(path) => save_old(rt, path.as_str(), text),
-        Err(error) if error.kind() == ErrorKind::OutOfMemory => Err(Unsaved::NoMemory),
-        Err(_) => save_new(rt, name, text),
-    };
-    saved.map_err(|unsaved| tell(rt, name, unsaved))
+    try_save(rt, name, text).map_err(|unsaved| report_unsaved(rt, name, unsaved))
 }
 
-/// Tells why a text was not saved, or cannot be.
-fn tell(rt: &HostRuntime, name: &str, unsaved: Unsaved) -> ExitCode {
+/// Writes a text to what a name leads to.
+fn try_save(rt: &HostRuntime, name: &str, text: &[u8]) -> Result<(), Unsaved> {
+    match target_of(rt, name)? {
+        Target::Plain(file) => save_old(rt, name, file, text),
+        Target::Special | Target::Dangling => write_directly(rt, name, text),
+        Target::Nothing => save_new(rt, name, text),
+    }
+}
+
+/// Reports why a text was not saved, or cannot be.
+fn report_unsaved(rt: &HostRuntime, name: &str, unsaved: Unsaved) -> ExitCode {
     match unsaved {
         Unsaved::Unwritten => report::write_fault(rt),
         Unsaved::NoMemory => report::no_memory(rt),
@@ -105,93 +130,38 @@ fn tell(rt: &HostRuntime, name: &str, unsaved: Unsaved) -> ExitCode {
     }
 }
 
-/// Writes the text to a file that is there.
-fn save_old(rt: &HostRuntime, path: &str, text: &[u8]) -> Result<(), Unsaved> {
-    let found = look_at(rt, path)?;
-    if !found.is_file() {
-        return write_directly(rt, path, text);
-    }
-    let file = open_old(rt, path)?;
-    match replace(rt, path, text, Some(found.permissions())) {
+/// Writes the text to a file that exists and is open. It is replaced under the path that the name leads to, if the same
+/// file is still there.
+fn save_old(rt: &HostRuntime, name: &str, file: File, text: &[u8]) -> Result<(), Unsaved> {
+    let found = match file.metadata() {
+        Ok(found) => found,
+        Err(error) => return Err(unopened(error.kind())),
+    };
+    match replace_old(rt, name, &found, text) {
         Err(Unsaved::NoOther) => write_over(file, found.len(), text),
         replaced => replaced,
     }
 }
 
-/// Writes the text to a file that is not there, or to what a link stands for that has no path, as a pipe.
+/// Replaces a file that was found under a name.
+fn replace_old(rt: &HostRuntime, name: &str, found: &Metadata, text: &[u8]) -> Result<(), Unsaved> {
+    let path = match fs::canonicalize(rt, name) {
+        Ok(path) => path,
+        Err(error) => return Err(hindered(error.kind())),
+    };
+    if id_of(fs::metadata(rt, path.as_str())) != FileId::of(found) {
+        return Err(Unsaved::NoOther);
+    }
+    replace(rt, path.as_str(), text, Some(found))?;
+    Ok(())
+}
+
+/// Writes the text to a file that does not exist.
 fn save_new(rt: &HostRuntime, name: &str, text: &[u8]) -> Result<(), Unsaved> {
-    if is_taken(rt, name)? {
-        return write_directly(rt, name, text);
-    }
     match replace(rt, name, text, None) {
+        Ok(_) => Ok(()),
         Err(Unsaved::NoOther) => write_directly(rt, name, text),
-        replaced => replaced,
-    }
-}
-
-/// Writes the text to a new file beside the file, and then gives it the file's name.
-fn replace(
-    rt: &HostRuntime,
-    path: &str,
-    text: &[u8],
-    permissions: Option<Permissions>,
-) -> Result<(), Unsaved> {
-    let (part, file) = make_part(rt, path)?;
-    if fill(file, text, permissions).is_err() {
-        let _ = fs::remove_file(rt, &part);
-        return Err(Unsaved::Unwritten);
-    }
-    put_in_place(rt, &part, path).map_err(|error| hindered(error.kind()))
-}
-
-/// Gives a new file the name of the file beside which it was made. Where that fails, it is taken away.
-///
-/// # Errors
-/// The fault of the file system.
-pub fn put_in_place(rt: &HostRuntime, part: &str, path: &str) -> io::Result<()> {
-    let placed = fs::rename(rt, part, path);
-    if placed.is_err() {
-        let _ = fs::remove_file(rt, part);
-    }
-    placed
-}
-
-/// Makes a new file beside the file, under the first of some short names that none has.
-///
-/// # Errors
-/// `Unsaved`, as it says.
-pub fn make_part(rt: &HostRuntime, path: &str) -> Result<(String, File), Unsaved> {
-    for number in 0..NAMES {
-        let Ok(part) = part_name(rt, path, number) else {
-            return Err(Unsaved::NoMemory);
-        };
-        match File::create_new(rt, &part) {
-            Ok(file) => return Ok((part, file)),
-            Err(error) if error.kind() == ErrorKind::AlreadyExists => {}
-            Err(error) => return Err(hindered(error.kind())),
-        }
-    }
-    Err(Unsaved::NoOther)
-}
-
-/// A name in the directory of the file.
-fn part_name(rt: &HostRuntime, path: &str, number: u32) -> Result<String, AllocError> {
-    let process = process::id(rt.process());
-    match path.rsplit_once('/') {
-        Some((directory, _)) => {
-            format!(in rt.alloc(); "{directory}/tourkit.{process}.{number}.part")
-        }
-        None => format!(in rt.alloc(); "tourkit.{process}.{number}.part"),
-    }
-}
-
-/// What it means that a file cannot be made or put in place. Where the disk is full or memory has run out, no other way
-/// is tried.
-fn hindered(kind: ErrorKind) -> Unsaved {
-    match kind {
-        ErrorKind::StorageFull | ErrorKind::QuotaExceeded => Unsaved::Unwritten,
-        ErrorKind::OutOfMemory => Unsaved::NoMemory,
-        _ => Unsaved::NoOther,
+        Err(unsaved) => Err(unsaved),
     }
 }
 
@@ -203,17 +173,8 @@ fn unopened(kind: ErrorKind) -> Unsaved {
     }
 }
 
-/// Writes the text to a new file and waits until the disk has it.
-fn fill(mut file: File, text: &[u8], permissions: Option<Permissions>) -> io::Result<()> {
-    if let Some(permissions) = permissions {
-        file.set_permissions(permissions)?;
-    }
-    file.write_all(text)?;
-    file.sync_all()
-}
-
-/// Writes the text over the bytes of a plain file, once the file is as long as the text. Where there is no room for
-/// that, the file keeps its bytes.
+/// Writes the text over the bytes of a plain file, once the file is as long as the text. If there is no room for that,
+/// the file keeps its bytes.
 fn write_over(mut file: File, length: u64, text: &[u8]) -> Result<(), Unsaved> {
     if lengthen(&mut file, length, text).is_err() {
         let _ = file.set_len(length);
@@ -240,7 +201,7 @@ fn overwrite(file: &mut File, text: &[u8]) -> io::Result<()> {
     file.sync_all()
 }
 
-/// Writes the text to what the name stands for, which is no plain file that is there.
+/// Writes the text to what the name stands for, which is not a plain file that exists.
 fn write_directly(rt: &HostRuntime, name: &str, text: &[u8]) -> Result<(), Unsaved> {
     let mut file = match File::create(rt, name) {
         Ok(file) => file,

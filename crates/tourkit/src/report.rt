@@ -1,4 +1,6 @@
 //! What standard error and the exit status tell.
+use crate::search::Search;
+use crate::shown::shown_name;
 use std::io;
 use std::process::ExitCode;
 use tk_command_line::Refusal;
@@ -18,6 +20,7 @@ pub const SYSTEM: u8 = 3;
 
 /// Prints a message about a file.
 fn print(rt: &HostRuntime, file: &str, message: &str) {
+    let file = shown_name(rt, file);
     let _ = eprintln!(rt; "tourkit: {file}: {message}");
 }
 
@@ -29,6 +32,7 @@ fn refuse(rt: &HostRuntime, file: &str, message: &str) -> ExitCode {
 
 /// Refuses a file for a key or an option, with a message about that.
 fn refuse_for(rt: &HostRuntime, file: &str, named: &str, message: &str) -> ExitCode {
+    let file = shown_name(rt, file);
     let _ = eprintln!(rt; "tourkit: {file}: {named} {message}");
     ExitCode::from(USAGE)
 }
@@ -61,6 +65,7 @@ pub fn no_such_fault(rt: &HostRuntime, what: &str) -> ExitCode {
 
 /// Tells that a file to write is the problem's. Both are called by what names them.
 pub fn same_as_problem(rt: &HostRuntime, file: &str, named: &str, problem: &str) -> ExitCode {
+    let file = shown_name(rt, file);
     let _ = eprintln!(rt; "tourkit: {file}: {named} is the same file as {problem}");
     ExitCode::from(USAGE)
 }
@@ -87,7 +92,35 @@ pub fn option_fault(rt: &HostRuntime, option: &str, kind: ParamKind) -> ExitCode
 
 /// Notes that a file name is most likely a slip.
 pub fn note(rt: &HostRuntime, key: &str, name: &str, slip: &str) {
+    let name = shown_name(rt, name);
     let _ = eprintln!(rt; "tourkit: note: the file of {key} is '{name}', with {slip}");
+}
+
+/// Notes that the file for the best tour so far has a tour from an earlier search.
+pub fn earlier_tour(rt: &HostRuntime, name: &str, length: i64, search: &Search<'_, '_>) {
+    let name = shown_name(rt, name);
+    let initial = if search.by_options {
+        "--initial-tour "
+    } else {
+        "INITIAL_TOUR_FILE = "
+    };
+    let _ = eprintln!(rt;
+        "tourkit: note: {name} has a tour of length {length} from an earlier search; {initial}{name} continues from it"
+    );
+}
+
+/// Notes that the file for the best result so far has routes from an earlier search.
+pub fn earlier_routes(rt: &HostRuntime, name: &str, cost: i64) {
+    let name = shown_name(rt, name);
+    let _ = eprintln!(rt; "tourkit: note: {name} has routes of cost {cost} from an earlier search");
+}
+
+/// Notes that the file for the best result so far is something else.
+pub fn other_best(rt: &HostRuntime, name: &str) {
+    let name = shown_name(rt, name);
+    let _ = eprintln!(rt;
+        "tourkit: note: {name} is not known to solve this problem, so it is kept, and nothing is saved there"
+    );
 }
 
 /// Tells the fault of an engine over the problem of a file.
@@ -121,6 +154,7 @@ pub fn stopped_by_claim(
 
 /// Tells the fault of a text.
 pub fn text_fault(rt: &HostRuntime, file: &str, fault: &TextFault) -> ExitCode {
+    let file = shown_name(rt, file);
     let _ = eprintln!(rt; "tourkit: {file}:{fault}");
     ExitCode::from(match fault.kind {
         TextKind::Read | TextKind::NoMemory => SYSTEM,
@@ -130,6 +164,7 @@ pub fn text_fault(rt: &HostRuntime, file: &str, fault: &TextFault) -> ExitCode {
 
 /// Tells the fault of a parameter file.
 pub fn param_fault(rt: &HostRuntime, file: &str, fault: &ParamFault) -> ExitCode {
+    let file = shown_name(rt, file);
     let _ = eprintln!(rt; "tourkit: {file}:{fault}");
     ExitCode::from(match fault.kind {
         ParamKind::Read | ParamKind::NoMemory => SYSTEM,
@@ -140,6 +175,13 @@ pub fn param_fault(rt: &HostRuntime, file: &str, fault: &ParamFault) -> ExitCode
 /// Tells that the output could not be written.
 pub fn write_fault(rt: &HostRuntime) -> ExitCode {
     let _ = eprintln!(rt; "tourkit: write fault");
+    ExitCode::from(SYSTEM)
+}
+
+/// Reports that the output could not be written, and which file has the result.
+pub fn write_fault_but_kept(rt: &HostRuntime, name: &str) -> ExitCode {
+    let name = shown_name(rt, name);
+    let _ = eprintln!(rt; "tourkit: write fault; the result is in {name}");
     ExitCode::from(SYSTEM)
 }
 
@@ -166,6 +208,7 @@ fn initial_fault(rt: &HostRuntime, file: &str, fault: &TourFault) -> ExitCode {
 
 /// Refuses a file with a message about a place of its list.
 fn refuse_at(rt: &HostRuntime, file: &str, message: &str, place: u32) -> ExitCode {
+    let file = shown_name(rt, file);
     let _ = eprintln!(rt; "tourkit: {file}: {message} {place}");
     ExitCode::from(USAGE)
 }

@@ -2,7 +2,7 @@
 
 use crate::input::{Input, open, open_file, open_two};
 use std::process::ExitCode;
-use tk_command_line::SearchOptions;
+use tk_command_line::{STANDARD, SearchOptions};
 use tk_params::{Key, Params};
 
 /// A search, asked for by a parameter file or by options.
@@ -86,6 +86,20 @@ impl<'p, 'a> Search<'p, 'a> {
             open(rt, name)
         } else {
             open_file(rt, name)
+        }
+    }
+
+    /// The file that the search writes, if any.
+    pub fn written_file(&self) -> Option<&'a str> {
+        self.tour_file.or(self.solution_file)
+    }
+
+    /// A path to the problem's file.
+    pub fn problem_path(&self) -> &'a str {
+        if self.by_options && self.problem == STANDARD {
+            "/dev/stdin"
+        } else {
+            self.problem
         }
     }
 

@@ -1,6 +1,7 @@
 //! What becomes of what a search shows while it runs.
 use crate::best::BestFile;
 use crate::progress::ProgressLine;
+use crate::search::Search;
 use crate::written::Kept;
 use std::alloc::AllocError;
 use tk_engines::write_run_line;
@@ -17,14 +18,13 @@ pub struct SearchWatch<'a> {
 }
 
 impl<'a> SearchWatch<'a> {
-    /// Before a search for a tour that is written to `tour_file`, if any. The lines of runs are written where `lines`
-    /// says so.
+    /// Before a search. The lines of runs are written if `lines` says so.
     ///
     /// # Errors
     /// `AllocError` if memory runs out.
     pub fn new(
         rt: &'a HostRuntime,
-        tour_file: Option<&str>,
+        search: &Search<'_, 'a>,
         kept: Kept,
         lines: bool,
     ) -> Result<SearchWatch<'a>, AllocError> {
@@ -32,13 +32,19 @@ impl<'a> SearchWatch<'a> {
             rt,
             line: ProgressLine::new(rt),
             lines,
-            best: BestFile::new(rt, tour_file, kept)?,
+            best: BestFile::new(rt, search, kept)?,
         })
     }
 
-    /// The search has written its tour.
+    /// Notes that the search has written its file.
     pub fn end(&self) {
         self.best.remove();
+    }
+
+    /// Keeps the text of the result, which could not be printed. It returns the name of the file with it, if it could
+    /// be saved.
+    pub fn keep_result(&mut self, text: &[u8]) -> Option<&str> {
+        self.best.keep_result(text)
     }
 }
 

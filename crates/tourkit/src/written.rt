@@ -1,30 +1,11 @@
 //! The file that `solve` is to write, looked at before the search.
+use crate::file_id::{FileId, id_of};
 use crate::output::find_place;
 use crate::report;
 use crate::search::Search;
-use std::fs::{self, Metadata};
-use std::io;
-use std::os::unix::fs::MetadataExt;
+use std::fs;
 use std::process::ExitCode;
 use tk_params::Key;
-
-/// Which plain file it is, whatever name or link leads to it.
-#[derive(Clone, Copy, PartialEq, Eq)]
-pub struct FileId {
-    device: u64,
-    inode: u64,
-}
-
-/// The plain file that was found, if it is one.
-pub fn id_of(found: io::Result<Metadata>) -> Option<FileId> {
-    match found {
-        Ok(found) if found.is_file() => Some(FileId {
-            device: found.dev(),
-            inode: found.ino(),
-        }),
-        _ => None,
-    }
-}
 
 /// The files that `solve` reads.
 #[derive(Clone, Copy)]

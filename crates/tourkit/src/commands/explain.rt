@@ -1,22 +1,13 @@
 //! The subcommand `explain`.
-use crate::input::{Input, open};
+use crate::explained_text::{Unread, read_explained};
+use crate::input::open;
 use crate::report;
-use std::alloc::Global;
+use crate::shown::shown_on_output;
 use std::fs;
-use std::io::{Read, Write};
+use std::io::Write;
 use std::process::ExitCode;
 use tk_diagnosis::{FileFault, kind_of};
 use tk_explain::{fault_page, file_page, is_number, line_page, unread_fault};
-use tk_problem::TEXT_LIMIT;
-
-/// Why a file was not read.
-#[derive(Drop)]
-enum Unread {
-    /// A read failed after these bytes.
-    Failed(Vec<u8>),
-    /// There was no memory.
-    NoMemory,
-}
 
 /// `explain WHAT [LINE]`. Where no line is given, the number or the name of a fault is that fault, and else a file.
 pub fn explain_command(rt: &HostRuntime, what: &str, line: Option<u64>) -> ExitCode {
@@ -42,7 +33,7 @@ fn explain_file(rt: &HostRuntime, name: &str, line: Option<u64>) -> ExitCode {
         Ok(input) => input,
         Err(status) => return status,
     };
-    match read_whole(rt.alloc(), &mut input) {
+    match read_explained(rt.alloc(), name, line, &mut input) {
         Ok(text) => print_text(rt, name, &text, line),
         Err(Unread::Failed(text)) => tell_unread(rt, name, &text),
         Err(Unread::NoMemory) => report::no_memory(rt),
@@ -51,33 +42,17 @@ fn explain_file(rt: &HostRuntime, name: &str, line: Option<u64>) -> ExitCode {
 
 /// Prints the explanation of a file with this text, or of one of its lines.
 fn print_text(rt: &HostRuntime, name: &str, text: &[u8], line: Option<u64>) -> ExitCode {
+    let Ok(name) = format!(in rt.alloc(); "{}", shown_on_output(rt, name)) else {
+        return report::no_memory(rt);
+    };
     let page = match line {
-        Some(line) => line_page(rt.alloc(), name, text, line),
-        None => file_page(rt.alloc(), name, text),
+        Some(line) => line_page(rt.alloc(), &name, text, line),
+        None => file_page(rt.alloc(), &name, text),
     };
     match page {
         Ok(page) => print_page(rt, &page.text),
         Err(_) => report::no_memory(rt),
     }
-}
-
-/// Reads a file to its end, or up to the first bytes after the limit of texts.
-fn read_whole(alloc: Global, input: &mut Input) -> Result<Vec<u8>, Unread> {
-    let mut text = Vec::new(alloc);
-    let mut buf = [0; 8192];
-    for _ in 0..u64::MAX {
-        let piece = match input.read(&mut buf) {
-            Ok(count) => &buf[..count],
-            Err(_) => return Err(Unread::Failed(text)),
-        };
-        if piece.is_empty() || text.len() as u64 > TEXT_LIMIT {
-            return Ok(text);
-        }
-        if text.extend_from_slice(piece).is_err() {
-            return Err(Unread::NoMemory);
-        }
-    }
-    Ok(text)
 }
 
 /// Tells that a file could not be read to its end.

@@ -1,12 +1,13 @@
 //! The subcommand `solve`.
-use crate::answer::Answer;
+use crate::answer::{Answer, Unprinted};
 use crate::commands::solve_options::{is_parameter_file, params_of};
+use crate::file_id::FileId;
 use crate::input::open;
 use crate::output::save;
 use crate::report;
 use crate::search::Search;
 use crate::watching::SearchWatch;
-use crate::written::{FileId, Kept, check_written, note_slips};
+use crate::written::{Kept, check_written, note_slips};
 use std::process::ExitCode;
 use tk_command_line::{SearchOptions, Shown};
 use tk_engines::{Fault, solve_engine};
@@ -107,7 +108,7 @@ fn begin<P: Source, I: Source>(
     problem: &mut P,
     initial: &mut I,
 ) -> ExitCode {
-    let Ok(mut watch) = SearchWatch::new(rt, search.tour_file, kept, shown.progress) else {
+    let Ok(mut watch) = SearchWatch::new(rt, search, kept, shown.progress) else {
         return report::no_memory(rt);
     };
     let mut out = ToWrite::new(Answer::new(rt, shown.json));
@@ -135,18 +136,40 @@ fn run<P: Source, I: Source>(
         watch,
     ) {
         Ok(()) => print_found(rt, search, &out.inner, &file.inner, watch),
-        Err(Fault::Write(_)) => unwritten(rt, &file, &out.inner),
+        Err(Fault::Write(_)) => unwritten(rt, &file, &out.inner, watch),
         Err(fault) => stopped(rt, search, kept, &fault),
     }
 }
 
-/// Tells that the lines or the text for the file could not be written. The text is in memory, so a write to it fails
-/// only where there is no more memory.
-fn unwritten(rt: &HostRuntime, file: &ToWrite<Vec<u8>>, answer: &Answer) -> ExitCode {
+/// Reports that the lines or the text for the file could not be written. The text is in memory, so a write to it fails
+/// only if memory runs out.
+fn unwritten(
+    rt: &HostRuntime,
+    file: &ToWrite<Vec<u8>>,
+    answer: &Answer,
+    watch: &mut SearchWatch<'_>,
+) -> ExitCode {
     if file.failed() {
         return report::no_memory(rt);
     }
-    answer.unwritten(rt)
+    unprinted(rt, answer.unwritten(), &file.inner, watch)
+}
+
+/// Reports that the answer could not be printed. If standard output took no more, what was found is kept next to the
+/// file that was to be written.
+fn unprinted(
+    rt: &HostRuntime,
+    unprinted: Unprinted,
+    text: &[u8],
+    watch: &mut SearchWatch<'_>,
+) -> ExitCode {
+    if unprinted == Unprinted::NoMemory {
+        return report::no_memory(rt);
+    }
+    match watch.keep_result(text) {
+        Some(name) => report::write_fault_but_kept(rt, name),
+        None => report::write_fault(rt),
+    }
 }
 
 /// Prints the answer, and writes the text to its file.
@@ -155,11 +178,11 @@ fn print_found(
     search: &Search<'_, '_>,
     answer: &Answer,
     text: &[u8],
-    watch: &SearchWatch<'_>,
+    watch: &mut SearchWatch<'_>,
 ) -> ExitCode {
-    match answer.print(rt) {
+    match answer.try_print(rt) {
         Ok(()) => save_found(rt, search, text, watch),
-        Err(status) => status,
+        Err(reason) => unprinted(rt, reason, text, watch),
     }
 }
 
@@ -188,7 +211,7 @@ fn save_found(
     text: &[u8],
     watch: &SearchWatch<'_>,
 ) -> ExitCode {
-    let saved = match search.tour_file.or(search.solution_file) {
+    let saved = match search.written_file() {
         Some(name) => save(rt, name, text),
         None => Ok(()),
     };

@@ -1,0 +1,180 @@
+//! A new file next to another one, whose place it takes once it is whole.
+use std::alloc::AllocError;
+use std::fs::{self, File, Metadata, Permissions};
+use std::io::{self, ErrorKind, Write};
+use std::os::fd::AsFd;
+use std::os::unix::fs::{MetadataExt, OpenOptionsExt, PermissionsExt, fchown};
+use std::process;
+
+/// How many names are tried for a new file.
+const NAMES: u32 = 100;
+
+/// The bits of a mode that a new file takes over from an old one: who may read, write and run it. A new file never runs
+/// with the rights of its owner or group.
+const RIGHTS: u32 = 0o777;
+
+/// The bits of a mode that a new file is asked for. The caller's umask takes away from them.
+const NEW_FILE: u32 = 0o666;
+
+/// Why a text was not saved.
+#[derive(Drop)]
+pub enum Unsaved {
+    /// No other file could be created next to the file, or put in its place.
+    NoOther,
+    /// The file could not be opened.
+    Unopened,
+    /// The text could not be written.
+    Unwritten,
+    /// Memory ran out.
+    NoMemory,
+}
+
+/// Writes a text to a new file next to the one at `path`, waits until the disk has it, and gives it the name of that
+/// file. It returns what is known of the new file. An old file at `path` is not touched if that fails.
+///
+/// # Errors
+/// `Unsaved`, as it says.
+pub fn replace(
+    rt: &HostRuntime,
+    path: &str,
+    text: &[u8],
+    old: Option<&Metadata>,
+) -> Result<Metadata, Unsaved> {
+    let mut part = Part::next_to(rt, path, old)?;
+    let Ok(found) = part.fill(text) else {
+        part.remove(rt);
+        return Err(Unsaved::Unwritten);
+    };
+    match part.put_in_place(rt, path) {
+        Ok(()) => Ok(found),
+        Err(error) => Err(hindered(error.kind())),
+    }
+}
+
+/// A new file next to another one.
+#[derive(Drop)]
+pub struct Part {
+    name: String,
+    file: File,
+}
+
+impl Part {
+    /// Creates a new file next to the one at `path`, under the first of some short names that is free. If there is an
+    /// old file at `path`, the new one belongs to its owner and group and has its rights, as far as the caller may set
+    /// them. Otherwise it has no more than those of a file that the caller creates.
+    ///
+    /// # Errors
+    /// `Unsaved`, as it says.
+    pub fn next_to(rt: &HostRuntime, path: &str, old: Option<&Metadata>) -> Result<Part, Unsaved> {
+        let part = create(rt, path, old.map_or(NEW_FILE, |old| old.mode() & NEW_FILE))?;
+        if let Some(old) = old {
+            if keep_rights(&part.file, old).is_err() {
+                part.remove(rt);
+                return Err(Unsaved::Unwritten);
+            }
+        }
+        Ok(part)
+    }
+
+    /// Writes a text to the new file, and waits until the disk has it.
+    fn fill(&mut self, text: &[u8]) -> io::Result<Metadata> {
+        self.file.write_all(text)?;
+        self.file.sync_all()?;
+        self.file.metadata()
+    }
+
+    /// Gives the new file the name of the one next to which it was created, and waits until the disk has the directory.
+    /// If that fails, it is removed.
+    fn put_in_place(&self, rt: &HostRuntime, path: &str) -> io::Result<()> {
+        let placed = fs::rename(rt, &self.name, path);
+        if placed.is_err() {
+            self.remove(rt);
+        } else {
+            sync_directory(rt, path);
+        }
+        placed
+    }
+
+    /// Removes the new file.
+    pub fn remove(&self, rt: &HostRuntime) {
+        let _ = fs::remove_file(rt, &self.name);
+    }
+}
+
+/// Creates a new file with at most these rights.
+fn create(rt: &HostRuntime, path: &str, mode: u32) -> Result<Part, Unsaved> {
+    for number in 0..NAMES {
+        let Ok(name) = part_name(rt, path, number) else {
+            return Err(Unsaved::NoMemory);
+        };
+        let created = File::options()
+            .write(true)
+            .create_new(true)
+            .mode(mode)
+            .open(rt, &name);
+        match created {
+            Ok(file) => return Ok(Part { name, file }),
+            Err(error) if error.kind() == ErrorKind::AlreadyExists => {}
+            Err(error) => return Err(hindered(error.kind())),
+        }
+    }
+    Err(Unsaved::NoOther)
+}
+
+/// A name in the directory of the file.
+fn part_name(rt: &HostRuntime, path: &str, number: u32) -> Result<String, AllocError> {
+    let process = process::id(rt.process());
+    match path.rsplit_once('/') {
+        Some((directory, _)) => {
+            format!(in rt.alloc(); "{directory}/tourkit.{process}.{number}.part")
+        }
+        None => format!(in rt.alloc(); "tourkit.{process}.{number}.part"),
+    }
+}
+
+/// Gives a new file the owner and the group of an old one, and then its rights. If it cannot belong to them, it keeps
+/// the rights that it was created with.
+fn keep_rights(new: &File, old: &Metadata) -> io::Result<()> {
+    if has_owner_of(new, old)? || give_to_owner_of(new, old) {
+        new.set_permissions(Permissions::from_mode(old.mode() & RIGHTS))?;
+    }
+    Ok(())
+}
+
+/// Whether both files belong to the same owner and group.
+fn has_owner_of(new: &File, old: &Metadata) -> io::Result<bool> {
+    let found = new.metadata()?;
+    Ok(found.uid() == old.uid() && found.gid() == old.gid())
+}
+
+/// Gives a new file to the owner and the group of an old one, or at least to its group. It returns whether both could
+/// be done.
+fn give_to_owner_of(new: &File, old: &Metadata) -> bool {
+    let given = fchown(new.as_fd(), Some(old.uid()), Some(old.gid())).is_ok();
+    if !given {
+        let _ = fchown(new.as_fd(), None, Some(old.gid()));
+    }
+    given
+}
+
+/// Waits until the disk has the directory of a file, if the file system can.
+fn sync_directory(rt: &HostRuntime, path: &str) {
+    let directory = match path.rsplit_once('/') {
+        Some(("", _)) => "/",
+        Some((directory, _)) => directory,
+        None => ".",
+    };
+    if let Ok(directory) = File::open(rt, directory) {
+        let _ = directory.sync_all();
+    }
+}
+
+/// What it means that a file cannot be created or put in place. If the disk is full or memory has run out, no other way
+/// is tried.
+pub fn hindered(kind: ErrorKind) -> Unsaved {
+    match kind {
+        ErrorKind::StorageFull | ErrorKind::QuotaExceeded => Unsaved::Unwritten,
+        ErrorKind::OutOfMemory => Unsaved::NoMemory,
+        _ => Unsaved::NoOther,
+    }
+}
