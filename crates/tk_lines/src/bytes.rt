@@ -1,4 +1,4 @@
-//! What a byte adds to the pieces of a text.
+//! How a reader takes one byte of a text, in each of its states.
 ghost use Rattle.std.specs.Prelude.{◌≡◌, ◌^◌, ◌≤◌, ◌||◌, ◌==◌, true, false};
 ghost use Rattle.tk_words.specs.Lex.{is_blank, is_word_byte};
 ghost use Rattle.tk_lines.specs.declared.place.Place.TheVariants as places;
@@ -12,7 +12,7 @@ use tk_words::{
     Keyword, TextFault, TextKind, begins_minus_one, blank, blank_or_end, letter, word_byte,
 };
 
-/// The most bytes between a header's word and the end of its line.
+/// Maximum number of bytes between a header's word and the end of its line.
 const HEADER_LIMIT: u32 = 4096;
 
 impl<F: Form> PieceReader<F> {
@@ -36,7 +36,7 @@ impl<F: Form> PieceReader<F> {
         Ok(Flow::On)
     }
 
-    /// Takes a byte of a line's word.
+    /// Takes a byte of the first word of a line.
     fn feed_word(&mut self, byte: u8) -> Result<Flow, TextFault>
         requires place { self.old.place ≡ places.Word }
         requires word { is_word_byte byte ≡ true }
@@ -85,7 +85,7 @@ impl<F: Form> PieceReader<F> {
         Ok(Flow::On)
     }
 
-    /// Takes a byte after a section's word.
+    /// Takes a byte after the word of a section.
     fn feed_begin(&mut self, byte: u8) -> Result<Flow, TextFault>
         requires place { self.old.place ≡ places.Begin }
         requires room { self.old.line ≤ 2 ^ 63 }
@@ -101,7 +101,7 @@ impl<F: Form> PieceReader<F> {
         self.feed_gap(byte)
     }
 
-    /// Takes a byte of a section's token.
+    /// Takes a byte of a token of a section.
     fn feed_token(&mut self, byte: u8) -> Result<Flow, TextFault>
         requires place { self.old.place ≡ places.Token }
         requires solid { (is_blank byte || byte == 10) ≡ false }
@@ -114,7 +114,7 @@ impl<F: Form> PieceReader<F> {
         Ok(Flow::On)
     }
 
-    /// Takes a byte after a section's last token.
+    /// Takes a byte after the last token of a section.
     fn feed_close(&mut self, byte: u8) -> Result<Flow, TextFault>
         requires place { self.old.place ≡ places.Close }
         requires room { self.old.line ≤ 2 ^ 63 }
@@ -173,7 +173,7 @@ impl<F: Form> PieceReader<F> {
         Err(self.fault(TextKind::TrailingData))
     }
 
-    /// Whether a byte ends the word or the token that is open.
+    /// Whether a byte ends the open word or token.
     fn ends_with(&self, byte: u8) -> bool
         ensures { result ≡ ends_at byte self.now.place }
     {
@@ -184,10 +184,10 @@ impl<F: Form> PieceReader<F> {
         }
     }
 
-    /// Takes a byte that ends no word and no token.
+    /// Takes a byte that does not end a word or a token.
     ///
     /// # Errors
-    /// The fault that the bytes up to this one show, with its line.
+    /// The fault that the bytes up to this one contain, with its line.
     pub(crate) fn feed_settled(&mut self, byte: u8) -> Result<Flow, TextFault>
         requires settled { ends_at byte self.old.place ≡ false }
         requires room { self.old.line ≤ 2 ^ 63 }
@@ -207,10 +207,10 @@ impl<F: Form> PieceReader<F> {
         }
     }
 
-    /// Takes a byte.
+    /// Takes one byte, after ending the word or token that it ends.
     ///
     /// # Errors
-    /// The fault that the bytes up to this one show, with its line.
+    /// The fault that the bytes up to this one contain, with its line.
     pub(crate) fn feed_byte(&mut self, byte: u8) -> Result<Flow, TextFault>
         requires room { self.old.line ≤ 2 ^ 63 }
         requires known { IsFed F.promise anything self.old }

@@ -1,4 +1,4 @@
-//! The ends of words, of headers and of tokens.
+//! How words, header values and tokens end.
 ghost use Rattle.std.specs.Prelude.{◌≡◌, ◌≤◌, length, Ok, IfOk};
 ghost use Rattle.tk_lines.specs.declared.place.Place.TheVariants as places;
 ghost use Rattle.tk_lines.specs.declared.place.Flow.TheVariants as flows;
@@ -14,10 +14,10 @@ use tk_words::{Held, Keyword, Lexeme, Role, TextFault, TextKind, keyword_of, min
 impl<F: Form> PieceReader<F> {
     ghost use Rattle.tk_words.specs.declared.keyword.Keyword.{Keyword};
 
-    /// Ends a line's word.
+    /// Ends the first word of a line.
     ///
     /// # Errors
-    /// `UnknownKeyword` if the word is none of the formats'; else the fault of the form, on this line.
+    /// `UnknownKeyword` if the word is not a keyword; otherwise the fault of the form. Both are on the current line.
     fn end_word(&mut self) -> Result<Flow, TextFault>
         requires place { self.old.place ≡ places.Word }
         ensures closed { Closes F.promise no_word self.old self.new result }
@@ -48,10 +48,10 @@ impl<F: Form> PieceReader<F> {
         }
     }
 
-    /// Ends a header's value.
+    /// Ends the value of a header.
     ///
     /// # Errors
-    /// The fault that the form finds in the value, on this line.
+    /// The fault that the form finds in the value, on the current line.
     pub(crate) fn end_header(&mut self, word: Keyword) -> Result<(), TextFault>
         requires place { self.old.place ≡ places.Value word }
         ensures closed { ClosesHeader F.promise word self.old self.new result }
@@ -70,7 +70,8 @@ impl<F: Form> PieceReader<F> {
     /// Takes a whole token of a section.
     ///
     /// # Errors
-    /// The fault that the form finds in the token, or at the end of the text if the token is `EOF`, on this line.
+    /// The fault that the form finds in the token, or at the end of the text if the token is `EOF`, on the current
+    /// line.
     #[inline(always)]
     pub(crate) fn take_token(&mut self, token: &Lexeme) -> Result<Flow, TextFault>
         requires short { length token.now ≤ 64 }
@@ -118,7 +119,7 @@ impl<F: Form> PieceReader<F> {
     /// Ends a token after the `-1` that ends a section.
     ///
     /// # Errors
-    /// `TrailingData` if the token is no `-1`.
+    /// `TrailingData` if the token is not `-1`.
     fn end_minus_one(&mut self, on_line: bool) -> Result<Flow, TextFault>
         requires place { self.old.place ≡ places.MinusOne on_line }
         ensures closed { Closes F.promise a_gap self.old self.new result }
@@ -132,10 +133,10 @@ impl<F: Form> PieceReader<F> {
         Err(self.fault(TextKind::TrailingData))
     }
 
-    /// Ends the word or the token that is open, where one is.
+    /// Ends the open word or token, if there is one.
     ///
     /// # Errors
-    /// The fault that it shows.
+    /// The fault of that word or token.
     pub(crate) fn close(&mut self) -> Result<Flow, TextFault>
         requires { IsKnown F.promise self.old }
         ensures closed { ClosesPlace F.promise self.old self.new result }

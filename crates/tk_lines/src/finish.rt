@@ -1,4 +1,4 @@
-//! What the end of its bytes makes of a text, and the whole reader.
+//! How the end of its bytes completes a text, and the reader as a `TextReader`.
 ghost use Rattle.std.specs.Prelude.{◌≡◌, ℕ, List, [], refl};
 ghost use Rattle.tk_problem.specs.declared.limits.TheConstants.{TEXT_LIMIT};
 ghost use Rattle.tk_words.specs.Texts.{texts_of};
@@ -14,7 +14,7 @@ use tk_problem::TEXT_LIMIT;
 use tk_words::{Keyword, Step, TextFault, TextKind, TextReader};
 
 impl<F: Form> PieceReader<F> {
-    /// Ends the text, where nothing is open.
+    /// Ends a text in which no word, token, value or section is open.
     fn end_text(&self) -> Result<(), TextFault>
         ensures { (before : List ℕ) → AtEnd F.promise.format F.promise.holds self.now.form self.now.line before
             → HasFinished F.promise self.now before result }
@@ -46,7 +46,7 @@ impl<F: Form> PieceReader<F> {
         self.end_text()
     }
 
-    /// Ends the text, wherever it stands.
+    /// Ends the text in any state.
     fn end_bytes(&mut self) -> Result<(), TextFault>
         requires { IsFed F.promise at_end self.old }
         ensures { Finishes F.promise self.old self.new result }

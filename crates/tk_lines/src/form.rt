@@ -1,4 +1,4 @@
-//! What a format makes of headers and sections.
+//! How a format handles headers and sections.
 ghost use Rattle.std.specs.Prelude.{◌≡◌, ◌≤◌, length};
 ghost use Rattle.tk_lines.specs.Reader.Forms.{Promise};
 ghost use Rattle.tk_lines.specs.Reader.FormSteps.{BeginsSection, EndsSection, HasAll, HasValue, RefusesEnd};
@@ -8,31 +8,31 @@ ghost use Rattle.tk_lines.specs.Reader.FormSteps.{TakesToken, TellsEnd};
 use crate::scan::Scan;
 use tk_words::{Keyword, Lexeme, TextKind};
 
-/// What a token does to its section.
+/// The effect of a token on its section.
 #[derive(Clone, Copy, PartialEq, Eq)]
 pub enum Taken {
     /// More tokens follow.
     More,
-    /// It is the last one.
+    /// This is the last token.
     Last,
-    /// It is the last one, but for a `-1` after it.
+    /// This is the last token, except for a `-1` that may follow it.
     Ending,
-    /// It is an EOF that ends the section.
+    /// This is an `EOF`, which ends the section and the text.
     Eof,
 }
 
-/// Takes the pieces of a text.
+/// Handles the headers and section tokens of one format.
 pub trait Form: Drop {
-    /// What it reads.
+    /// The value that is read.
     type Out;
 
-    /// What a contract sees of that.
+    /// The type of that value in contracts.
     ghost Value: { Type 0 };
 
-    /// What is seen of it.
+    /// The value as contracts see it.
     ghost view: { Self.Out → Value };
 
-    /// What it promises: its format, and what it has taken.
+    /// The guarantees of the form: its format, and the pieces that it has taken.
     ghost promise: { Promise Value Self };
 
     /// Takes a header.
@@ -51,18 +51,18 @@ pub trait Form: Drop {
         ensures ok { TakesToken promise token.now self.old self.new result }
         ensures err { RefusesToken promise token.now self.old result };
 
-    /// Ends a section at the end of the bytes.
+    /// Ends a section at the end of the text.
     fn end_section(&mut self) -> Result<(), TextKind>
         ensures ok { EndsSection promise self.old self.new result }
         ensures err { RefusesEnd promise self.old result };
 
-    /// What is wrong at the end of the text.
+    /// The fault at the end of the text, if there is one.
     fn end(&self) -> Option<TextKind>
         ensures fault { TellsEnd promise self.now result }
         ensures value { HasValue promise self.now result }
         ensures complete { HasAll promise self.now result };
 
-    /// What was read.
+    /// The value that was read.
     fn value(self) -> Self::Out
         requires { promise.complete self }
         ensures { view result ≡ promise.held self };

@@ -1,4 +1,4 @@
-//! Lines, headers and sections: a text as pieces, byte by byte.
+//! Lines, headers and sections: splits a text into pieces, byte by byte.
 #![tactic(auto)]
 
 mod bytes;

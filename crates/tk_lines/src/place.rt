@@ -1,31 +1,31 @@
-//! Where a reader stands in its text.
+//! The states of a reader.
 
 use tk_words::Keyword;
 
-/// Where a reader stands in its text.
+/// The state of a reader: the part of the text that it is in.
 #[derive(Clone, Copy, PartialEq, Eq)]
 pub enum Place {
-    /// Before a line's word.
+    /// Before the first word of a line.
     Start,
-    /// In a line's word.
+    /// In the first word of a line.
     Word,
-    /// In a header's value.
+    /// In the value of a header.
     Value(Keyword),
-    /// After a section's word, before its colon.
+    /// After the word of a section, before its colon.
     Begin,
     /// In a section, between tokens.
     Gap,
-    /// In a section's token.
+    /// In a token of a section.
     Token,
-    /// After a section's last token, on its line.
+    /// After the last token of a section, on its line.
     Close,
-    /// After the `-1` that ends a section, on its line or later.
+    /// After the `-1` that ends a section; `true` on the line of the `-1`, `false` on a later one.
     After(bool),
-    /// In a token after that, which may be one more `-1`.
+    /// In a token after that `-1`, which may be one more `-1`; the flag is that of `After`.
     MinusOne(bool),
 }
 
-/// Whether a text goes on.
+/// Whether a text continues (`On`) or has ended (`Whole`).
 #[derive(Clone, Copy, PartialEq, Eq)]
 pub enum Flow {
     On,

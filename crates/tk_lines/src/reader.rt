@@ -1,4 +1,4 @@
-//! What takes the bytes of a text, and gives its pieces to a form.
+//! A reader that splits a text into pieces and passes them to a form.
 ghost use Rattle.std.specs.Prelude.{◌≡◌, [], ◌∷◌};
 
 use crate::form::Form;
@@ -6,7 +6,7 @@ use crate::place::Place;
 use crate::scan::Scan;
 use tk_words::{Held, TextFault, TextKind};
 
-/// Takes the bytes of a text, and gives its pieces to a form.
+/// Splits the bytes of a text into pieces and passes them to a form.
 #[derive(Drop)]
 pub struct PieceReader<F> {
     pub line: u64,
@@ -19,7 +19,7 @@ pub struct PieceReader<F> {
 impl<F: Form> PieceReader<F> {
     ghost use Rattle.tk_lines.specs.Reader.Steps.{Waits};
 
-    /// A reader of a whole text, for a form that has taken no piece.
+    /// A reader at the beginning of a text, for a form that has taken no pieces.
     pub fn new(form: F) -> Self
         requires { F.promise.holds form [] }
         ensures { Waits F.promise result [] }
@@ -33,7 +33,7 @@ impl<F: Form> PieceReader<F> {
         }
     }
 
-    /// A fault on this line.
+    /// A fault on the current line.
     pub(crate) fn fault(&self, kind: TextKind) -> TextFault
         ensures { result ≡ record { line = self.now.line; kind = kind } }
     {
@@ -43,7 +43,7 @@ impl<F: Form> PieceReader<F> {
         }
     }
 
-    /// Begins a word or a token.
+    /// Begins a word or a token with this byte.
     pub(crate) fn begin(&mut self, byte: u8, place: Place)
         ensures { self.new ≡ record self.old { held = byte ∷ []; place = place } }
     {

@@ -1,4 +1,4 @@
-//! Whole tokens of a section, one after the other.
+//! Takes whole tokens of a section, one after another.
 ghost use Rattle.std.specs.Prelude.{◌≡◌, ◌≤◌, ◌^◌, ◌+◌, ◌||◌, ◌==◌, true, false, ℕ, List, length};
 ghost use Rattle.tk_words.specs.Lex.{is_blank};
 ghost use Rattle.tk_lines.specs.Reader.Places.{Fed, IsToken, IsInSection, anything, this};
@@ -13,7 +13,7 @@ impl<F: Form> PieceReader<F> {
     /// Takes a whole token of a section, and the byte after it.
     ///
     /// # Errors
-    /// Those of `take_token`, and those of a byte after the token.
+    /// Those of `take_token`, and those of the byte after the token.
     #[inline(always)]
     fn feed_whole(&mut self, token: &Lexeme, byte: u8) -> Result<Flow, TextFault>
         requires run { IsToken token.now }
@@ -28,7 +28,8 @@ impl<F: Form> PieceReader<F> {
         }
     }
 
-    /// Takes the byte after a token. Most tokens have another one after them.
+    /// Takes the byte after a token. The state tested first is the most frequent: most tokens have another one after
+    /// them.
     #[inline(always)]
     fn feed_next(&mut self, byte: u8) -> Result<Flow, TextFault>
         requires settled { ends_at byte self.old.place ≡ false }
@@ -42,11 +43,11 @@ impl<F: Form> PieceReader<F> {
         }
     }
 
-    /// Takes the tokens of a section that stand whole in the bytes, each with the byte after it, up to two blanks or
-    /// what is no such token.
+    /// Takes tokens of a section, each with the byte after it, as long as they lie whole in the bytes. Stops at a
+    /// second blank, or at a token that is too long or goes on to the end of the bytes.
     ///
     /// # Errors
-    /// The fault that one of these tokens shows, with its line.
+    /// The fault of one of these tokens, with its line.
     pub(crate) fn feed_tokens(&mut self, bytes: &[u8]) -> Result<Step, TextFault>
         requires { (before : List ℕ) × Fed F.promise anything self.old before
             × (length before + length bytes.now ≤ 2 ^ 63) }

@@ -1,4 +1,4 @@
-//! The value of a header, byte by byte.
+//! Scans the value of a header, byte by byte.
 ghost use Rattle.std.specs.Prelude.{◌≡◌, ◌≤◌, ◌<◌, ℕ, List, [], ◌∷◌, ◌++◌, length, Some, None, IfSome, IfOk, IfErr};
 ghost use Rattle.std.specs.Prelude.{◌^◌};
 ghost use Rattle.tk_lines.specs.Reader.Scan.{Scans};
@@ -10,7 +10,7 @@ ghost use Rattle.tk_lines.specs.Reader.Forms.{IsToldWord};
 
 use tk_words::{Held, TextKind, blank, integer, limited, spelled};
 
-/// How far a value is read.
+/// How far a value has been read.
 #[derive(Clone, Copy, PartialEq, Eq)]
 pub enum Phase {
     Before,
@@ -19,8 +19,8 @@ pub enum Phase {
     Rest,
 }
 
-/// What is kept of a header's value: its first word up to 64 bytes, its first 1,024 bytes, and its length without outer
-/// blanks.
+/// The parts of a header's value that are kept: its first word up to 64 bytes, its first 1,024 bytes, and its length
+/// without outer blanks.
 #[derive(Drop)]
 pub struct Scan {
     pub phase: Phase,
@@ -32,7 +32,7 @@ pub struct Scan {
 }
 
 impl Scan {
-    /// Before the first byte.
+    /// A scanner that has read nothing yet.
     pub fn new() -> Self
         ensures { Scans result [] }
     {
@@ -46,7 +46,7 @@ impl Scan {
         }
     }
 
-    /// Begins again, before the first byte.
+    /// Makes this a scanner that has read nothing yet.
     pub fn clear(&mut self)
         ensures { Scans self.new [] }
     {
@@ -106,7 +106,7 @@ impl Scan {
         }
     }
 
-    /// The value as a name, without outer blanks; `None` where it is longer than 1,024 bytes.
+    /// The value as a name, without outer blanks; `None` if it is longer than 1,024 bytes.
     pub fn name(&self) -> Option<&[u8]>
         ensures long { (v : List ℕ) → Scans self.now v → result ≡ None → 1024 < length (trim (after_word v)) }
         ensures name { (v : List ℕ) → Scans self.now v
@@ -120,7 +120,8 @@ impl Scan {
         Some(&text[..end])
     }
 
-    /// Whether the value's first word spells a text in capitals.
+    /// Whether the first word of the value spells this text, which is in capitals. The case of the word does not
+    /// matter.
     pub fn is(&self, text: &[u8]) -> bool
         requires { length text.now < 64 }
         ensures { (v : List ℕ) → Scans self.now v → result ≡ spells (first_word v) text.now }
@@ -128,10 +129,10 @@ impl Scan {
         spelled(self.first.as_slice(), text)
     }
 
-    /// The value's first word as an integer within limits.
+    /// The first word of the value, as an integer within limits.
     ///
     /// # Errors
-    /// `BadNumber` if it is no integer, `OutOfLimit` if it is outside the limits.
+    /// `BadNumber` if it is not an integer, `OutOfLimit` if it is outside the limits.
     pub fn number(&self, low: u32, high: u32) -> Result<u32, TextKind>
         ensures ok { (v : List ℕ) → Scans self.now v → IfOk result (λ n. IsNumber low high (first_word v) n) }
         ensures err { (v : List ℕ) (line : ℕ) → Scans self.now v

@@ -1,6 +1,6 @@
--- The steps of a form: what it makes of a header, of a section's word, of a token and of an end, whatever pieces it
--- took before. Each takes what comes (Takes .., Begins .., Ends ..), or refuses it for the fault that the format tells
--- (Refuses ..).
+-- The steps of a form: how it handles a header, the word of a section, a token and an end, whatever pieces it took
+-- before. A step takes what comes (Takes .., Begins .., Ends ..), or refuses it with the fault that the format
+-- specifies (Refuses ..).
 use Rattle.std.specs.Prelude.{◌≡◌, ℕ, Bool, true, List, [], ◌++◌, Option, Some, None, Result, IfOk, IfErr, IfSome}
 use Rattle.tk_words.specs.declared.fault.TextKind.{TextKind}
 use Rattle.tk_words.specs.declared.keyword.Keyword.{Keyword}
@@ -12,7 +12,7 @@ use Rattle.tk_lines.specs.Reader.Forms.{Goes, HasTakenToken, Holding, IsToldWord
 use Rattle.tk_lines.specs.Reader.Forms.{whole}
 use Rattle.tk_lines.specs.Reader.Scan.{Scans}
 
--- what a format asks of a header, after the pieces before it
+-- the tests of a header, given the pieces before it
 abbrev pub HeaderTests : Type 0
 HeaderTests = List Piece → Keyword → List ℕ → List (Bool × TextKind)
 
@@ -49,7 +49,7 @@ RefusesToken p token old result =
     (before : List Piece) (word : Keyword) (n : ℕ) (toks : List Token) (line : ℕ) → p.wants old before word n toks
     → IfErr result (IsToldWord (StopsAt p.format before word n toks (whole token line)))
 
--- the bytes end between two tokens of a section
+-- a section whose bytes end between two tokens is accepted
 abbrev pub EndsSection : {V S : Type 0} → Promise V S → S → S → Result (Unit {0}) TextKind → Type 0
 EndsSection p old new result =
     (before : List Piece) (word : Keyword) (n : ℕ) (toks : List Token) (line : ℕ) → p.wants old before word n toks
@@ -61,12 +61,12 @@ RefusesEnd p old result =
     (before : List Piece) (word : Keyword) (n : ℕ) (toks : List Token) (line : ℕ) → p.wants old before word n toks
     → IfErr result (IsToldWord (λ k. p.format.section before word n toks (Early line true) ≡ Some (Fault line k)))
 
--- what is wrong with all pieces of a text
+-- a fault that is reported at the end is that of the format
 abbrev pub TellsEnd : {V S : Type 0} → Promise V S → S → Option TextKind → Type 0
 TellsEnd p form result =
     (before : List Piece) → p.holds form before → IfSome result (IsToldWord (λ k. p.format.at_end before ≡ Some k))
 
--- nothing is wrong, and what the form holds is what the text says
+-- if no fault is reported at the end, the format has none there, and the value of the form is that of the text
 abbrev pub HasValue : {V S : Type 0} → Promise V S → S → Option TextKind → Type 0
 HasValue p form result =
     (before : List Piece) → p.holds form before → result ≡ None

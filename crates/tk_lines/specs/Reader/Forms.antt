@@ -1,4 +1,4 @@
--- What the reader of a format promises of its headers and sections.
+-- The guarantees of a form, which handles the headers and sections of a format.
 use Rattle.std.specs.Prelude.{◌≡◌, ◌<◌, ◌≤◌, ℕ, ◌+◌, true, false, List, [], ◌∷◌, ◌++◌, length, take, Some, None}
 use Rattle.tk_words.specs.declared.keyword.Keyword.{Keyword}
 use Rattle.tk_words.specs.declared.fault.TextKind.{TextKind}
@@ -9,14 +9,14 @@ use Rattle.tk_words.specs.Lex.{Token}
 use Rattle.tk_lines.specs.Pieces.{Piece, Header, Section, After, Clean, Trailing, Early, Open, Fault, Format}
 use Rattle.tk_words.specs.MinusOne.{one_more}
 
--- a fault's kind, of which P holds unless memory ran out
+-- the kind of a fault satisfies P, unless memory ran out; it is not Read
 abbrev pub IsToldWord : (TextKind → Type 0) → TextKind → Type 0
 IsToldWord P kinds.NoMemory = Unit {0}
 IsToldWord P kinds.Read = ⊥
 IsToldWord P k = P k
 
--- what a form promises: the format that it reads; which pieces it has taken, of which none has a fault; which pieces,
--- and which tokens of a section whose word is on this line; what it holds; and where that is all of a value
+-- the guarantees of a form: the format that it reads; the pieces that it has taken, none of which has a fault; those
+-- pieces and the tokens of a section whose word is on this line; its value; and when that value is complete
 pub record Promise (V S : Type 0) : Type 1 where
   pub format : Format V
   pub holds : S → List Piece → Type 0
@@ -24,11 +24,11 @@ pub record Promise (V S : Type 0) : Type 1 where
   pub held : S → V
   pub complete : S → Type 0
 
--- which pieces a form has taken, of which none has a fault
+-- the pieces that a form has taken, none of which has a fault
 abbrev pub Holding : Type 0 → Type 1
 Holding S = S → List Piece → Type 0
 
--- which pieces a form has taken, and which tokens of a section whose word is on this line
+-- the pieces that a form has taken, and the tokens of a section whose word is on this line
 abbrev pub Wanting : Type 0 → Type 1
 Wanting S = S → List Piece → Keyword → ℕ → List Token → Type 0
 
@@ -41,11 +41,11 @@ a_header word v n = Header word (whole v n) ∷ []
 abbrev pub a_section : Keyword → ℕ → List Token → After → List Piece
 a_section word n toks after = Section word n toks after ∷ []
 
--- the tokens that belong to a section, of all after its word
+-- the tokens that belong to a section, out of all tokens after its word
 abbrev pub taken : {V : Type 0} → Format V → List Piece → Keyword → List Token → List Token
 taken f before word toks = take (f.extent before word toks).count toks
 
--- a section that goes on after these tokens
+-- a section that continues after these tokens
 pub record Goes {V : Type 0} (f : Format V) (before : List Piece) (word : Keyword) (n : ℕ)
     (toks : List Token) : Type 0 where
   pub covers : (more : List Token) → length toks ≤ (f.extent before word (toks ++ more)).count
@@ -64,7 +64,7 @@ pub record Closed {V : Type 0} (f : Format V) (before : List Piece) (word : Keyw
   pub clean : f.section before word n toks Clean ≡ None
   pub trailing : (line : ℕ) → f.section before word n toks (Trailing line) ≡ Some (Fault line kinds.TrailingData)
 
--- a section that ends with these tokens, and one -1 more where it is the next
+-- a section that ends with these tokens, and with one more -1 if that comes next
 pub record EndsWithMinusOne {V : Type 0} (f : Format V) (before : List Piece) (word : Keyword) (n : ℕ)
     (toks : List Token) : Type 0 where
   pub extent : (more : List Token) → f.extent before word (toks ++ more)
@@ -80,7 +80,7 @@ pub record EndsAtEof {V : Type 0} (f : Format V) (before : List Piece) (word : K
       f.extent before word (toks ++ t ∷ more) ≡ record { count = length toks; closed = false; at_eof = true }
   pub early : f.section before word n toks (Early t.line true) ≡ None
 
--- what a token does to a section
+-- the effect of a token on a section
 abbrev pub HasTakenToken : {V : Type 0} → Format V → (List Piece → Type 0) →
     (List Piece → Keyword → ℕ → List Token → Type 0) → List Piece → Keyword → ℕ → List Token → Token → Taken → Type 0
 HasTakenToken f holds wants before word n toks t takens.More =
@@ -93,7 +93,7 @@ HasTakenToken f holds wants before word n toks t takens.Ending =
 HasTakenToken f holds wants before word n toks t takens.Eof =
     holds (before ++ a_section word n toks (Early t.line true)) × EndsAtEof f before word n toks t
 
--- whatever follows a token, the section stops at it
+-- a section stops at a token, whatever follows it
 abbrev pub StopsAt : {V : Type 0} → Format V → List Piece → Keyword → ℕ → List Token → Token → TextKind → Type 0
 StopsAt f before word n toks t k =
     (more : List Token) (after : After) →

@@ -1,4 +1,4 @@
--- A reader's place in a text.
+-- The state of a reader within a text.
 use Rattle.std.specs.Prelude.{◌≡◌, ◌<◌, ◌≤◌, ℕ, Bool, true, false, not, ◌||◌, ◌==◌, List, [], ◌∷◌, ◌++◌, length, Option}
 use Rattle.std.specs.Prelude.{Some, None, Result}
 use Rattle.tk_words.specs.declared.keyword.Keyword.{Keyword}
@@ -18,24 +18,24 @@ use Rattle.tk_lines.specs.Reader.Forms.{Promise, Goes, Closed, EndsWithMinusOne,
 use Rattle.tk_lines.specs.Reader.Forms.{whole}
 use Rattle.tk_words.specs.Texts.{line_behind}
 
--- what may follow the bytes so far; true: nothing comes after them
+-- a condition on the bytes that follow; the flag is true if the text ends after them
 abbrev pub Next : Type 0
 Next = Bool → List ℕ → Bool
 
 abbrev pub anything : Next
 anything e more = true
 
--- this byte
+-- this byte comes next
 abbrev pub this : ℕ → Next
 this b e [] = false
 this b e (c ∷ more) = c == b
 
--- a byte with which a token has ended, or the end
+-- a byte that ends a token, or the end of the text
 abbrev pub a_gap : Next
 a_gap e [] = e
 a_gap e (b ∷ more) = is_blank b || b == LF
 
--- a byte that goes on no word, or the end
+-- a byte that does not continue a word, or the end of the text
 abbrev pub no_word : Next
 no_word e [] = e
 no_word e (b ∷ more) = not (is_word_byte b)
@@ -44,7 +44,7 @@ abbrev pub at_end : Next
 at_end e [] = e
 at_end e (b ∷ more) = false
 
--- the end of a line
+-- the end of a line, or the end of the text
 abbrev pub a_line_end : Next
 a_line_end e [] = e
 a_line_end e (b ∷ more) = b == LF
@@ -52,19 +52,19 @@ a_line_end e (b ∷ more) = b == LF
 abbrev pub Within : Next → Next → Type 0
 Within next other = (e : Bool) (more : List ℕ) → next e more ≡ true → other e more ≡ true
 
--- what follows so, decides so
+-- if the bytes that follow satisfy `next`, g is the result of the text
 abbrev pub Says : {V : Type 0} → Format V → Next → List ℕ → (Bool → List ℕ → Option (Result V TextFault)) → Type 0
 Says f next bs g = (e : Bool) (more : List ℕ) → next e more ≡ true → decided_by f e (bs ++ more) ≡ g e more
 
 abbrev pub DecidesIf : {V : Type 0} → Format V → Next → List ℕ → Result V TextFault → Type 0
 DecidesIf f next bs a = Says f next bs (λ e more. Some a)
 
--- bytes that are one word, which begins with a letter and is not too long
+-- bytes that are one word: it begins with a letter and is not too long
 abbrev pub IsWord : List ℕ → Type 0
 IsWord [] = ⊥
 IsWord (b ∷ t) = (is_letter b ≡ true) × (behind is_word_byte (b ∷ t) ≡ []) × (length (b ∷ t) ≤ 64)
 
--- on a line outside the sections, of which these bytes stand before
+-- on a line outside the sections, after its bytes `pre`
 pub record AtLine {V S : Type 0} (f : Format V) (H : Holding S) (next : Next) (form : S) (line : ℕ) (pre : List ℕ)
     (bs : List ℕ) : Type 0 where
   pub before : List Piece
@@ -73,7 +73,7 @@ pub record AtLine {V S : Type 0} (f : Format V) (H : Holding S) (next : Next) (f
   pub lt : upto < line
   pub same : Says f next bs (λ e more. from_line f before upto pre e line more)
 
--- after a line's word
+-- after the word of a line
 pub record AtTail {V : Type 0} (f : Format V) (next : Next) (line : ℕ) (held : List ℕ) (word : Keyword)
     (before : List Piece) (tail : List ℕ) (bs : List ℕ) : Type 0 where
   pub upto : ℕ
@@ -107,7 +107,7 @@ pub record AtBegin {V S : Type 0} (f : Format V) (W : Wanting S) (next : Next) (
 abbrev pub IsToken : List ℕ → Type 0
 IsToken held = IsUnbroken held × (length held ≤ 64)
 
--- in a section, after these tokens
+-- in a section, after these tokens and the bytes `pre` of the next one
 pub record AtToken {V S : Type 0} (f : Format V) (W : Wanting S) (next : Next) (form : S) (line : ℕ) (pre : List ℕ)
     (bs : List ℕ) : Type 0 where
   pub before : List Piece
@@ -134,7 +134,7 @@ abbrev pub IsLastLine : Bool → ℕ → ℕ → Type 0
 IsLastLine true last line = last ≡ line
 IsLastLine false last line = last < line
 
--- after the -1 that ends a section, on its line or later
+-- after the -1 that ends a section, on the line of the -1 or on a later one
 pub record AtAfter {V S : Type 0} (f : Format V) (H : Holding S) (next : Next) (form : S) (line : ℕ) (on_line : Bool)
     (pre : List ℕ) (bs : List ℕ) : Type 0 where
   pub before : List Piece
@@ -146,7 +146,7 @@ pub record AtAfter {V S : Type 0} (f : Format V) (H : Holding S) (next : Next) (
   pub last : IsLastLine on_line (last_line first toks) line
   pub same : Says f next bs (λ e more. in_section f before word first toks pre e line more)
 
--- what comes after the -1, and may be one more
+-- bytes after the -1 that begin a second -1
 abbrev pub IsMore : List ℕ → Type 0
 IsMore held = IsUnbroken held × (begins_minus_one held ≡ true)
 
@@ -163,18 +163,18 @@ AtPlace f holds wants next form line held scan bs (places.After on_line) = AtAft
 AtPlace f holds wants next form line held scan bs (places.MinusOne on_line) =
     IsMore held × AtAfter f holds next form line on_line held bs
 
--- the reader has taken these bytes, and what follows is so
+-- the reader has taken these bytes, and is in the right state if the bytes that follow satisfy `next`
 pub record Fed {V S : Type 0} (p : Promise V S) (next : Next) (reader : PieceReader S) (bs : List ℕ) : Type 0 where
   pub line : reader.line ≡ line_behind bs
   pub at : AtPlace p.format p.holds p.wants next reader.form reader.line reader.held reader.scan bs reader.place
 
--- it stands in a section, and of a token these bytes come after it
+-- in a section, the bytes end with this token, which the reader does not store
 pub record IsInSection {V S : Type 0} (p : Promise V S) (next : Next) (reader : PieceReader S)
     (token bs : List ℕ) : Type 0 where
   pub line : reader.line ≡ line_behind bs
   pub at : AtToken p.format p.wants next reader.form reader.line token bs
 
--- a header is taken, and its line's end comes
+-- the form has taken a header, whose line ends next
 pub record HeaderTaken {V S : Type 0} (f : Format V) (H : Holding S) (next : Next) (form : S) (line : ℕ) (held : List ℕ)
     (word : Keyword) (bs : List ℕ) : Type 0 where
   pub before : List Piece
@@ -184,7 +184,7 @@ pub record HeaderTaken {V S : Type 0} (f : Format V) (H : Holding S) (next : Nex
   pub holds : H form (before ++ a_header word tail line)
   pub none : stop f before (Header word (whole tail line)) ≡ None
 
--- at the end of the bytes, nothing is open
+-- the bytes have ended, and no word, token or section is open
 pub record AtEnd {V S : Type 0} (f : Format V) (H : Holding S) (form : S) (line : ℕ) (bs : List ℕ) : Type 0 where
   pub before : List Piece
   pub holds : H form before

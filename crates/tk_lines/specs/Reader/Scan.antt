@@ -1,4 +1,4 @@
--- What is kept of a header's value.
+-- The parts of a header's value that are kept.
 use Rattle.std.specs.Prelude.{◌≡◌, ◌≤◌, ℕ, List, [], ◌∷◌, ◌++◌, length, take}
 use Rattle.tk_lines.specs.declared.scan.Phase.{Phase}
 use Rattle.tk_lines.specs.declared.scan.Phase.TheVariants as phases
@@ -6,7 +6,7 @@ use Rattle.tk_lines.specs.declared.scan.Scan.{Scan}
 use Rattle.tk_words.specs.Lex.{is_blank, behind, after_word, trim_end}
 use Rattle.tk_lines.specs.HeaderValue.{body, first_word, not_blank}
 
--- the byte that settles the colon has come
+-- more bytes only extend the value: it is known whether there is a colon
 abbrev pub Settled : List ℕ → Type 0
 Settled v = (more : List ℕ) → after_word (v ++ more) ≡ after_word v ++ more
 

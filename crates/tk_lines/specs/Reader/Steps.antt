@@ -1,9 +1,10 @@
--- The steps of a reader: what bytes make of it, and what ends a word, a token and the text, whatever bytes it took
+-- The steps of a reader: how it takes bytes, and how it ends a word, a token and the text, whatever bytes it took
 -- before.
---     HasCome p next new bs result      how far a reader has come with bytes: they are taken, or whole, or refused
+--     HasCome p next new bs result      the state after these bytes, which are taken, complete the text, or have a
+--         fault
 --     TakesByte, TakesSettled, TakesWhole, TakesRun      a byte; one that ends nothing; a token and a byte; tokens
---     Closes, ClosesPlace, ClosesHeader, EndsToken      what ends a word or a token; wherever it stands; a header; a
--- token
+--     Closes, ClosesPlace, ClosesHeader, EndsToken      the end of a word or token; in any state; of a header; of a
+--         token
 --     Finishes p old new result      the end of the text
 use Rattle.std.specs.Prelude.{◌≡◌, ℕ, ◌≤◌, Bool, true, false, not, ◌||◌, ◌==◌, List, [], ◌∷◌, ◌++◌, length, take, Some}
 use Rattle.std.specs.Prelude.{None, Result, Ok, Err}
@@ -23,24 +24,24 @@ use Rattle.tk_lines.specs.Pieces.{Format, decided_by}
 use Rattle.tk_lines.specs.Reader.Places.{Next, Within, Fed, IsInSection, HeaderTaken, DecidesIf, this, anything, at_end}
 use Rattle.tk_lines.specs.Reader.Places.{a_gap, a_line_end, no_word}
 
--- a fault other than of memory is an answer with P
+-- a fault of the text satisfies P as an error; memory may run out at any time, and the source does not fail
 abbrev pub IsFaultWith : {V : Type 0} → (Result V TextFault → Type 0) → TextFault → Type 0
 IsFaultWith P f = IsToldOf ⊥ (λ e. P (Err e)) f (cause_of f.kind)
 
 abbrev pub IsFed : {V S : Type 0} → Promise V S → Next → PieceReader S → Type 0
 IsFed p next reader = (before : List ℕ) × Fed p next reader before
 
--- the reader has taken these bytes, which decide nothing
+-- the reader has taken these bytes, which do not decide the result
 pub record Waits {V S : Type 0} (p : Promise V S) (reader : PieceReader S) (before : List ℕ) : Type 0 where
   pub fed : Fed p anything reader before
   pub undecided : decided_by p.format false before ≡ None
 
--- something is known of what comes next
+-- the reader is in the right state for some condition on the bytes that follow
 abbrev pub IsKnown : {V S : Type 0} → Promise V S → PieceReader S → Type 0
 IsKnown p reader = (next : Next) × IsFed p next reader
 
--- how far a reader has come with bytes: they are taken; or they make the text whole, and its form has all that a value
--- is made of; or they show a fault
+-- the state of a reader after these bytes: they are taken; or they complete the text, and the form has its complete
+-- value; or they have a fault
 abbrev pub HasCome : {V S : Type 0} → Promise V S → Next → PieceReader S → List ℕ → Result Flow TextFault → Type 0
 HasCome p next new bs (Ok On) = Fed p next new bs
 HasCome p next new bs (Ok Whole) = DecidesIf p.format next bs (Ok (p.held new.form)) × p.complete new.form
@@ -53,26 +54,26 @@ abbrev pub TakesByte : {V S : Type 0} → Promise V S → PieceReader S → Piec
 TakesByte p old new byte result =
     (before : List ℕ) → Fed p anything old before → HasCome p anything new (before ++ byte ∷ []) result
 
--- a byte ends the word or the token that is open
+-- whether a byte ends the open word or token
 abbrev pub ends_at : ℕ → Place → Bool
 ends_at byte places.Word = not (is_word_byte byte)
 ends_at byte places.Token = is_blank byte || byte == LF
 ends_at byte (places.MinusOne on_line) = is_blank byte || byte == LF
 ends_at byte _ = false
 
--- a byte that ends none
+-- a byte that does not end the open word or token
 abbrev pub TakesSettled : {V S : Type 0} → Promise V S → PieceReader S → PieceReader S → ℕ → Result Flow TextFault →
     Type 0
 TakesSettled p old new byte result =
     (before : List ℕ) → Fed p (this byte) old before → HasCome p anything new (before ++ byte ∷ []) result
 
--- a byte after a token that is not held
+-- a byte after a token that the reader does not store
 abbrev pub TakesWhole : {V S : Type 0} → Promise V S → List ℕ → PieceReader S → PieceReader S → ℕ →
     Result Flow TextFault → Type 0
 TakesWhole p token old new byte result =
     (before : List ℕ) → IsInSection p (this byte) old token before → HasCome p anything new (before ++ byte ∷ []) result
 
--- how far a reader has come with the first of some bytes
+-- the state of a reader after the first of these bytes
 abbrev pub HasRun : {V S : Type 0} → Promise V S → PieceReader S → List ℕ → List ℕ → Result Step TextFault → Type 0
 HasRun p new before bytes (Ok (Taken n)) = (n ≤ length bytes) × Fed p anything new (before ++ take n bytes)
 HasRun p new before bytes (Ok Done) =
@@ -86,20 +87,20 @@ TakesRun p old new bytes result = (before : List ℕ) → Fed p anything old bef
 
 -- ---- what ends
 
--- no word and no token is open
+-- no word or token is open
 abbrev pub IsSettled : Place → Type 0
 IsSettled places.Word = ⊥
 IsSettled places.Token = ⊥
 IsSettled (places.MinusOne on_line) = ⊥
 IsSettled _ = Unit {0}
 
--- what follows is so that it ends what is open
+-- the open word or token is ended, if the bytes that follow satisfy `end`
 abbrev pub Closes : {V S : Type 0} → Promise V S → Next → PieceReader S → PieceReader S → Result Flow TextFault →
     Type 0
 Closes p end old new result =
     (next : Next) (before : List ℕ) → Within next end → Fed p next old before → HasCome p next new before result
 
--- what ends what is open at a place
+-- the bytes that follow end the word or token that is open in this state
 abbrev pub EndsPlace : Next → Place → Type 0
 EndsPlace next places.Word = Within next no_word
 EndsPlace next places.Token = Within next a_gap
@@ -111,14 +112,14 @@ ClosesPlace p old new result =
     (next : Next) (before : List ℕ) → EndsPlace next old.place → Fed p next old before
     → HasCome p next new before result
 
--- a token that is not held
+-- the end of a token that the reader does not store
 abbrev pub EndsToken : {V S : Type 0} → Promise V S → List ℕ → PieceReader S → PieceReader S →
     Result Flow TextFault → Type 0
 EndsToken p token old new result =
     (next : Next) (before : List ℕ) → Within next a_gap → IsUnbroken token → IsInSection p next old token before
     → HasCome p next new before result
 
--- the header of this word is taken, or refused
+-- the header of this word is taken or rejected
 abbrev pub HasClosed : {V S : Type 0} → Promise V S → Next → Keyword → List ℕ → PieceReader S → List ℕ →
     Result (Unit {0}) TextFault → Type 0
 HasClosed p next word held new before (Ok _) = HeaderTaken p.format p.holds next new.form new.line held word before
@@ -132,11 +133,11 @@ ClosesHeader p word old new result =
 
 -- ---- the end of the text
 
--- this is the answer where the bytes have ended
+-- the result of a text that consists of these bytes
 abbrev pub IsAnswered : {V : Type 0} → Format V → List ℕ → Result V TextFault → Type 0
 IsAnswered f before a = decided_by f true before ≡ Some a
 
--- the form has all of the value that the text says, or the text is refused
+-- the form has the complete value of the text, or the text is rejected
 abbrev pub HasFinished : {V S : Type 0} → Promise V S → PieceReader S → List ℕ → Result (Unit {0}) TextFault → Type 0
 HasFinished p new before (Ok _) = IsAnswered p.format before (Ok (p.held new.form)) × p.complete new.form
 HasFinished p new before (Err f) = IsFaultWith (IsAnswered p.format before) f
