@@ -44,7 +44,7 @@ impl<F: Form> PieceReader<F> {
     }
 
     /// Takes tokens of a section, each with the byte after it, as long as they lie whole in the bytes. Stops at a
-    /// second blank, or at a token that is too long or goes on to the end of the bytes.
+    /// second blank, or at a token that is too long or reaches the end of the bytes.
     ///
     /// # Errors
     /// The fault of one of these tokens, with its line.

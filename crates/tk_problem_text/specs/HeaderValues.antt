@@ -1,4 +1,4 @@
--- What the values of a problem's headers say.
+-- The values of a problem's headers.
 use Rattle.std.specs.Prelude.{ℕ, Bool, nat_le, ◌&&◌, ◌||◌, List, Option, Some, None, ℤ, pos, if◌then◌else◌, codes}
 use Rattle.std.specs.Prelude.{find, option_map}
 use Rattle.tk_problem.specs.declared.weights.PlaneKind.{PlaneKind}
@@ -48,6 +48,6 @@ between low high _ = None
 abbrev pub header_number : ℕ → ℕ → List ℕ → Option ℕ
 header_number low high bs = between low high (integer (first_word bs))
 
--- the name that a header's value gives
+-- the name in the value of NAME, or Unnamed if it is empty
 abbrev pub name_of : List ℕ → List ℕ
 name_of bs = let name = trim (after_word bs) in if is_empty name then codes "Unnamed" else name

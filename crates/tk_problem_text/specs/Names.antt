@@ -2,7 +2,7 @@
 use Rattle.std.specs.Prelude.{◌≡◌, ◌≢◌, ℕ, ◌≤◌, false, List, All, length}
 use Rattle.tk_words.specs.Lex.{LF, is_empty, trim}
 
--- a name as a reader gives it: some bytes on one line, with no blanks at their ends
+-- a name as the reader returns it: 1 to 1,024 bytes on one line, without blanks at its ends
 pub record IsName (name : List ℕ) : Type 0 where
   pub some : is_empty name ≡ false
   pub short : length name ≤ 1024

@@ -33,7 +33,7 @@ use Rattle.tk_problem_text.specs.Sections.Rows as Rows
 use Rattle.tk_problem_text.specs.Sections.FixedSections.{tokens_stop, fixed_extent, fixed_end}
 use Rattle.tk_problem_text.specs.Sections.DepotList.{depot_tests, depot_extent, depot_entries, depot_end}
 
--- ---- what the headers say
+-- ---- the values of the headers
 
 abbrev pub problem_type : List Piece → Option ProblemType
 problem_type ps = option_and_then problem_type_of (value_of words.Type ps)
@@ -44,7 +44,7 @@ weight_type ps = option_and_then weight_type_of (value_of words.EdgeWeightType p
 abbrev pub weight_format : List Piece → Option WeightFormat
 weight_format ps = option_and_then weight_format_of (value_of words.EdgeWeightFormat ps)
 
--- how many nodes there are
+-- the number of nodes
 abbrev pub size_of : List Piece → ℕ
 size_of ps = unwrap_or (option_and_then (header_number 2 CITY_LIMIT) (value_of words.Dimension ps)) 0
 
@@ -67,11 +67,11 @@ abbrev pub listed_format : Option WeightFormat → Option Layout.Format
 listed_format (Some (weight_formats.Listed f)) = Some f
 listed_format _ = None
 
--- the format of the weights, where they are listed
+-- the format of the weights, if they are listed
 abbrev pub format_in : List Piece → Layout.Format
 format_in ps = unwrap_or (listed_format (weight_format ps)) formats.FullMatrix
 
--- the tests of a header, besides its length, in their order
+-- the tests of a header, apart from its length, in their order of precedence
 abbrev pub problem_header : List Piece → Keyword → List ℕ → List (Bool × TextKind)
 problem_header before words.Name bs =
     (nat_lt 1024 (length (trim (after_word bs))), kinds.TooLong) ∷ (has words.Name before, kinds.Repeated) ∷ []
@@ -93,7 +93,7 @@ problem_header before _ bs = (true, kinds.Unsupported) ∷ []
 
 -- ---- sections
 
--- how many tokens a section of a known size has
+-- the number of tokens of a section that has a fixed number of them
 abbrev pub wanted : List Piece → Keyword → ℕ
 wanted before words.NodeCoordSection = 3 * size_of before
 wanted before words.DemandSection = 2 * size_of before
@@ -106,7 +106,7 @@ abbrev pub problem_extent : List Piece → Keyword → List Token → Extent
 problem_extent before words.DepotSection toks = depot_extent toks
 problem_extent before word toks = fixed_extent (wanted before word) toks
 
--- the tests of a section's token after those before it
+-- the tests of a token of a section, given the tokens before it
 abbrev pub token_tests : List Piece → Keyword → List Token → Token → List (Bool × TextKind)
 token_tests ps words.NodeCoordSection before t = place_tests (size_of ps) before t
 token_tests ps words.DemandSection before t = demand_tests (size_of ps) before t
@@ -114,7 +114,8 @@ token_tests ps words.EdgeWeightSection before t = weight_tests (size_of ps) (for
 token_tests ps words.DepotSection before t = depot_tests (size_of ps) before t
 token_tests ps _ before t = []
 
--- what must stand before a section, and which sections a problem can have, at the section's word
+-- tests at the word of a section: the headers that must come before it, whether the problem can have it, and the limit
+-- of tables
 abbrev pub section_tests : List Piece → Keyword → List (Bool × TextKind)
 section_tests before words.NodeCoordSection = []
 section_tests before words.DisplayDataSection = []
@@ -137,7 +138,7 @@ is_known_section words.DemandSection = true
 is_known_section words.DepotSection = true
 is_known_section _ = false
 
--- the tests of a section's word
+-- all tests at the word of a section
 abbrev pub word_tests : List Piece → Keyword → List (Bool × TextKind)
 word_tests before word = (not (is_known_section word), kinds.Unsupported) ∷ (has word before, kinds.Repeated)
     ∷ (not (has words.Type before), kinds.Missing words.Type)
@@ -208,13 +209,13 @@ abbrev pub over_capacity : ℕ → ℕ → List ℕ → List (Bool × TextKind)
 over_capacity capacity c [] = []
 over_capacity capacity c (q ∷ qs) = (nat_lt capacity q, kinds.DemandOverCapacity c) ∷ over_capacity capacity (suc c) qs
 
--- what must have come of the weights
+-- the headers and sections that the weights require
 abbrev pub weights_ends : List Piece → List (Bool × TextKind)
 weights_ends ps =
     missing ps words.EdgeWeightType
     ∷ missing ps (if is_explicit (weight_type ps) then words.EdgeWeightSection else words.NodeCoordSection) ∷ []
 
--- what must have come for a CVRP; its depot has no demand, and no node has more than a vehicle's capacity
+-- the headers and sections that a CVRP requires; its depot must have no demand, and no node more than the capacity
 abbrev pub routing_ends : List Piece → List (Bool × TextKind)
 routing_ends ps =
     missing ps words.Capacity ∷ missing ps words.DemandSection ∷ missing ps words.DepotSection
@@ -224,12 +225,12 @@ routing_ends ps =
 abbrev pub routing_ends_of : List Piece → List (Bool × TextKind)
 routing_ends_of ps = if is_cvrp (problem_type ps) then routing_ends ps else []
 
--- the first of the checks at the end of the text that holds
+-- the fault at the end of the text, that of the first test that is true
 abbrev pub problem_end : List Piece → Option TextKind
 problem_end ps =
     first_kind (missing ps words.Type ∷ missing ps words.Dimension ∷ (weights_ends ps ++ routing_ends_of ps))
 
--- what stands in a problem text
+-- the format of problem texts
 abbrev pub problem_format : Format ProblemIs
 problem_format = record {
   extent = problem_extent;
@@ -239,7 +240,7 @@ problem_format = record {
   value = problem_value;
 }
 
--- what bytes decide: all of the text where it has ended, else what it begins with
+-- the result that bytes decide: of the whole text if it has ended, otherwise of every text that begins with them
 abbrev pub problem_decided : Bool → List ℕ → Option (Result ProblemIs TextFault)
 problem_decided = decided_by problem_format
 

@@ -1,4 +1,4 @@
--- What a contract sees of a problem that was read.
+-- A problem that was read, as contracts see it.
 use Rattle.std.specs.Prelude.{Option, Some, None}
 use Rattle.tk_problem.specs.declared.problem.Problem.{Problem}
 use Rattle.tk_problem.specs.declared.routing.Routing.{Routing}
@@ -15,6 +15,6 @@ abbrev pub routing_is : Option Routing → Option RoutingIs
 routing_is None = None
 routing_is (Some r) = Some (record { capacity = r.capacity; demand = r.demand.items; depot = r.depot })
 
--- what a contract sees of a problem
+-- a problem as contracts see it
 abbrev pub problem_is : Problem → ProblemIs
 problem_is p = record { name = p.name.items; n = p.n; weights = weights_are p.weights; routing = routing_is p.routing }

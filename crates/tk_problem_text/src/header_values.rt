@@ -1,4 +1,4 @@
-//! What the values of a problem's headers say.
+//! The values of a problem's headers.
 ghost use Rattle.std.specs.Prelude.{◌≡◌, List, ℕ};
 ghost use Rattle.tk_problem_text.specs.HeaderValues as Values;
 ghost use Rattle.tk_lines.specs.Reader.Scan.{Scans};
@@ -6,28 +6,28 @@ ghost use Rattle.tk_lines.specs.Reader.Scan.{Scans};
 use tk_lines::Scan;
 use tk_problem::{FORMATS, Format, PLANE_KINDS, PlaneKind};
 
-/// The problems that are read.
+/// The types of problems that are supported.
 #[derive(Clone, Copy, Debug, PartialEq, Eq)]
 pub enum ProblemType {
     Tsp,
     Cvrp,
 }
 
-/// Where distances come from.
+/// How distances are given: by coordinates in the plane, or explicitly.
 #[derive(Clone, Copy, Debug, PartialEq, Eq)]
 pub enum WeightType {
     Plane(PlaneKind),
     Explicit,
 }
 
-/// How explicit weights are given.
+/// How explicit weights are given: by a function, or as a list in a format.
 #[derive(Clone, Copy, Debug, PartialEq, Eq)]
 pub enum WeightFormat {
     Function,
     Listed(Format),
 }
 
-/// The value of TYPE.
+/// The value of TYPE; `None` if it is not supported.
 pub fn problem_type_of(value: &Scan) -> Option<ProblemType>
     ensures { (v : List ℕ) → Scans value.now v → result ≡ Values.problem_type_of v }
 {
@@ -40,7 +40,7 @@ pub fn problem_type_of(value: &Scan) -> Option<ProblemType>
     None
 }
 
-/// The value of EDGE_WEIGHT_TYPE.
+/// The value of EDGE_WEIGHT_TYPE; `None` if it is not supported.
 pub fn weight_type_of(value: &Scan) -> Option<WeightType>
     ensures { (v : List ℕ) → Scans value.now v → result ≡ Values.weight_type_of v }
 {
@@ -62,7 +62,7 @@ fn plane_of(value: &Scan) -> Option<PlaneKind>
         .find(|kind| value.is(kind.word().as_bytes()))
 }
 
-/// The value of EDGE_WEIGHT_FORMAT.
+/// The value of EDGE_WEIGHT_FORMAT; `None` if it is not supported.
 pub fn weight_format_of(value: &Scan) -> Option<WeightFormat>
     ensures { (v : List ℕ) → Scans value.now v → result ≡ Values.weight_format_of v }
 {
@@ -84,7 +84,7 @@ fn format_of(value: &Scan) -> Option<Format>
         .find(|format| value.is(format.word().as_bytes()))
 }
 
-/// Whether a value of NODE_COORD_TYPE is one that is read.
+/// Whether a value of NODE_COORD_TYPE is supported.
 pub fn is_coordinate_type(value: &Scan) -> bool
     ensures { (v : List ℕ) → Scans value.now v → result ≡ Values.is_coordinate_type v }
 {

@@ -1,4 +1,4 @@
-//! The headers of a problem that came so far.
+//! The headers of a problem that have been read.
 ghost use Rattle.std.specs.Prelude.{◌≡◌, ◌≤◌, ◌++◌, ℕ, Bool, true, false, List, [], length, Option, Some, None, IfOk};
 ghost use Rattle.std.specs.Prelude.{IfErr};
 ghost use Rattle.tk_words.specs.declared.keyword.Keyword.{Keyword};
@@ -20,7 +20,7 @@ use tk_lines::Scan;
 use tk_problem::{CAPACITY_LIMIT, CITY_LIMIT};
 use tk_words::{Keyword, TextKind};
 
-/// The headers of a problem that came so far.
+/// The headers of a problem that have been read.
 #[derive(Drop)]
 pub struct Headers {
     pub has_name: bool,
@@ -34,7 +34,7 @@ pub struct Headers {
     pub has_display_type: bool,
 }
 
-/// Keeps what a header says, which may come once.
+/// Stores the value of a header; `Repeated` if it has been stored before.
 fn keep<A: Copy>(kept: &mut Option<A>, said: Result<A, TextKind>) -> Result<(), TextKind>
     ensures ok { (word : Keyword) (f : List ℕ → Option A) (tests : List (Bool × TextKind)) (ps : List Piece)
         (v : List ℕ) (n : ℕ) → same_word word word ≡ true → KeepsHeader word f kept.old ps → ValueSays f tests v said
@@ -51,7 +51,7 @@ fn keep<A: Copy>(kept: &mut Option<A>, said: Result<A, TextKind>) -> Result<(), 
     Ok(())
 }
 
-/// Notes a header, which may come once.
+/// Notes that a header has been read; `Repeated` if it has been read before.
 fn note(came: &mut bool) -> Result<(), TextKind>
     ensures ok { (word : Keyword) (ps : List Piece) (v : List ℕ) (n : ℕ) → same_word word word ≡ true
         → came.old ≡ has word ps → IfOk result (λ _. (came.new ≡ has word (ps ++ a_header word v n))
@@ -70,10 +70,10 @@ impl Headers {
     ghost use Rattle.tk_problem_text.specs.Reader.Headers.{HasHeaders};
     ghost use Rattle.tk_words.specs.declared.keyword.Keyword.TheVariants as words;
 
-    /// Before the first one.
+    /// No header has been read.
     ///
     /// # Errors
-    /// `AllocError` if there is no memory for the name of a problem without one.
+    /// `AllocError` if memory runs out.
     pub fn new(alloc: Global) -> Result<Self, AllocError>
         ensures { IfOk result (λ h. HasHeaders h []) }
     {
@@ -93,8 +93,8 @@ impl Headers {
     /// Takes a header.
     ///
     /// # Errors
-    /// The first fault of the header: `Repeated`, `Unsupported`, `BadNumber`, `OutOfLimit` or `TooLong`, and `NoMemory`
-    /// if there is no memory for a name.
+    /// The first fault of the header: `Repeated`, `Unsupported`, `BadNumber`, `OutOfLimit` or `TooLong`, or `NoMemory`
+    /// if memory runs out.
     pub fn take(&mut self, alloc: Global, word: Keyword, value: &Scan) -> Result<(), TextKind>
         ensures ok { TakesHeader HasHeaders problem_header word value.now self.old self.new result }
         ensures err { RefusesHeader HasHeaders problem_header word value.now self.old result }
@@ -129,7 +129,7 @@ impl Headers {
         }
     }
 
-    /// Takes the name.
+    /// Takes the value of NAME.
     fn take_name(&mut self, alloc: Global, value: &Scan) -> Result<(), TextKind>
         ensures ok { TakesHeader HasHeaders problem_header words.Name value.now self.old self.new result }
         ensures err { RefusesHeader HasHeaders problem_header words.Name value.now self.old result }
@@ -140,7 +140,7 @@ impl Headers {
         }
     }
 
-    /// Keeps the name.
+    /// Stores the name. If it is empty, the default name stays.
     fn keep_name(&mut self, alloc: Global, name: &[u8]) -> Result<(), TextKind>
         ensures ok { (ps : List Piece) (v : List ℕ) (n : ℕ) → HasHeaders self.old ps → name.now ≡ trim (after_word v)
             → length name.now ≤ 1024 → IfOk result (λ _. HasHeaders self.new (ps ++ a_header words.Name v n)

@@ -1,4 +1,4 @@
-//! Laws of problem texts: there is nothing to run.
+//! Laws of problem texts, as contracts of functions that do nothing.
 ghost use Rattle.tk_words.specs.TextLaws.{HasAnswers, StaysDecided};
 ghost use Rattle.tk_problem_text.specs.Problem.{problem_decided};
 
@@ -7,7 +7,7 @@ pub fn each_problem_text_has_an_answer()
     ensures { HasAnswers problem_decided }
 {}
 
-/// A law: what is decided of a problem text stays, whatever follows.
+/// A law: once bytes of a problem text decide its answer, the bytes after them do not change it.
 pub fn decided_problems_stay()
     ensures { StaysDecided problem_decided }
 {}

@@ -1,4 +1,4 @@
-//! The headers and sections of a problem that came so far.
+//! The headers and sections of a problem that have been read.
 ghost use Rattle.std.specs.Prelude.{◌≡◌, ◌≤◌, ◌<◌, ◌-◌, ◌^◌, ℕ, List, [], Some, None, IfOk, IfSome};
 ghost use Rattle.std.specs.Prelude.{length, slice_index};
 ghost use Rattle.tk_lines.specs.Pieces.{Piece};
@@ -19,7 +19,7 @@ use tk_lines::Scan;
 use tk_problem::{Points, Problem, Routing, Weights};
 use tk_words::{Keyword, TextKind};
 
-/// The headers and sections of a problem that came so far.
+/// The headers and sections of a problem that have been read.
 #[derive(Drop)]
 pub struct Parts {
     pub headers: Headers,
@@ -36,10 +36,10 @@ impl Parts {
     ghost use Rattle.tk_problem_text.specs.Reader.Parts.{HasParts, IsWhole, problem_in};
     ghost use Rattle.tk_problem_text.specs.ProblemOf.{problem_is};
 
-    /// Before the first one.
+    /// No header and no section has been read.
     ///
     /// # Errors
-    /// `AllocError` if there is no memory for the name of a problem without one.
+    /// `AllocError` if memory runs out.
     pub fn new(alloc: Global) -> Result<Self, AllocError>
         ensures { IfOk result (λ p. HasParts p []) }
     {
@@ -69,42 +69,42 @@ impl Parts {
         self.headers.take(alloc, word, value)
     }
 
-    /// Keeps the places of NODE_COORD_SECTION.
+    /// Stores the coordinates of NODE_COORD_SECTION.
     pub fn keep_places(&mut self, places: Points)
         ensures { KeepsPlaces places self.old self.new }
     {
         self.places = Some(places);
     }
 
-    /// Keeps the lower triangle of EDGE_WEIGHT_SECTION.
+    /// Stores the lower triangle of EDGE_WEIGHT_SECTION.
     pub fn keep_lower(&mut self, lower: Vec<u32>)
         ensures { KeepsLower lower self.old self.new }
     {
         self.lower = Some(lower);
     }
 
-    /// Keeps the demands of DEMAND_SECTION.
+    /// Stores the demands of DEMAND_SECTION.
     pub fn keep_demand(&mut self, demand: Vec<u32>)
         ensures { KeepsDemand demand self.old self.new }
     {
         self.demand = Some(demand);
     }
 
-    /// Keeps the node of DEPOT_SECTION.
+    /// Stores the node of DEPOT_SECTION.
     pub fn keep_depot(&mut self, depot: u32)
         ensures { KeepsDepot depot self.old self.new }
     {
         self.depot = Some(depot);
     }
 
-    /// Notes DISPLAY_DATA_SECTION.
+    /// Notes that DISPLAY_DATA_SECTION has been read.
     pub fn note_display(&mut self)
         ensures { NotesDisplay self.old self.new }
     {
         self.has_display = true;
     }
 
-    /// What is wrong at the end of the text.
+    /// The fault at the end of the text, if there is one.
     pub fn end(&self) -> Option<TextKind>
         ensures fault { (ps : List Piece) → HasParts self.now ps
             → IfSome result (IsToldWord (λ k. problem_end ps ≡ Some k)) }
@@ -122,7 +122,7 @@ impl Parts {
         }
     }
 
-    /// The problem, where nothing is wrong.
+    /// The problem that complete parts describe.
     pub fn into_problem(self) -> Problem
         requires { IsWhole self }
         ensures { problem_is result ≡ problem_in self }
@@ -145,7 +145,7 @@ impl Parts {
         }
     }
 
-    /// What is wrong with the weights.
+    /// The fault of the weights at the end of the text, if there is one.
     fn weights_end(&self) -> Option<TextKind>
         ensures fault { (ps : List Piece) → HasParts self.now ps
             → IfSome result (IsToldWord (λ k. first_kind (weights_ends ps) ≡ Some k)) }
@@ -170,7 +170,7 @@ impl Parts {
         }
     }
 
-    /// What is wrong with the routing, where there is one.
+    /// The fault of the routing at the end of the text, if there is one; `None` for a TSP.
     fn routing_end(&self) -> Option<TextKind>
         ensures fault { (ps : List Piece) → HasParts self.now ps
             → IfSome result (IsToldWord (λ k. first_kind (routing_ends_of ps) ≡ Some k)) }
@@ -216,7 +216,7 @@ fn weights_from(
     }
 }
 
-/// The routing of n nodes.
+/// The routing of n nodes; `None` for a TSP.
 fn routing_from(
     problem_type: Option<ProblemType>,
     capacity: Option<u32>,
@@ -237,7 +237,7 @@ fn routing_from(
     }
 }
 
-/// The demand of a node, 0 where there is no such node.
+/// The demand of a node; 0 if there is no such node.
 fn demand_at(demand: &[u32], node: u32) -> u32
     ensures { 1 ≤ node → result ≡ slice_index demand.now (node - 1) }
 {
@@ -248,7 +248,7 @@ fn demand_at(demand: &[u32], node: u32) -> u32
     demand[index - 1]
 }
 
-/// The first node that has more demand than a vehicle holds.
+/// The first node whose demand is greater than the capacity of a vehicle.
 fn first_over(demand: &[u32], capacity: u32) -> Option<u32>
     ensures some { length demand.now < 2 ^ 32
         → IfSome result (λ node. first_kind (over_capacity capacity 1 demand.now)

@@ -1,4 +1,4 @@
-//! What a problem text says so far.
+//! The form of problem texts.
 ghost use Rattle.std.specs.Prelude.{◌≡◌, ℕ, true, false, List, [], IfOk};
 ghost use Rattle.tk_words.specs.declared.keyword.Keyword.{Keyword};
 ghost use Rattle.tk_words.specs.declared.keyword.Keyword.TheVariants as words;
@@ -18,7 +18,7 @@ use tk_lines::{Form, Scan, Taken};
 use tk_problem::Problem;
 use tk_words::{Keyword, Lexeme, TextKind};
 
-/// What a problem text says so far, and the section whose tokens come.
+/// The parts of a problem text that have been read, and the section that is being read.
 #[derive(Drop)]
 pub struct ProblemForm {
     pub alloc: Global,
@@ -27,10 +27,10 @@ pub struct ProblemForm {
 }
 
 impl ProblemForm {
-    /// Before the first piece.
+    /// No piece has been read.
     ///
     /// # Errors
-    /// `AllocError` if there is no memory for the name of a problem without one.
+    /// `AllocError` if memory runs out.
     pub fn new(alloc: Global) -> Result<Self, AllocError>
         ensures { IfOk result (λ s. ProblemHolds s []) }
     {
@@ -41,7 +41,7 @@ impl ProblemForm {
         })
     }
 
-    /// Keeps what a section gave, after its last token.
+    /// Stores the contents of the open section, after its last token.
     fn close(&mut self)
         ensures { (before : List Piece) (word : Keyword) (n : ℕ) (ps : List Piece) → HasParts self.old.parts before
             → has words.Dimension before ≡ true → has word before ≡ false → IsPast before word n self.old.current ps

@@ -1,4 +1,4 @@
-//! Problem texts.
+//! Reads problem texts.
 ghost use Rattle.std.specs.Prelude.{Ok, IfOk};
 ghost use Rattle.tk_words.specs.Reading.{IsReading};
 ghost use Rattle.tk_problem_text.specs.ProblemOf.{problem_is};
@@ -11,12 +11,12 @@ use tk_lines::PieceReader;
 use tk_problem::Problem;
 use tk_words::{Source, TextFault, TextKind, read_text};
 
-/// Reads a problem text, as far as it takes to know the answer. What it answers is what every text says that begins
-/// with the bytes that it read, but for `Read`, where the source fails, and `NoMemory`.
+/// Reads a problem text, no further than its result requires. Every text that begins with the bytes read has this
+/// result, except for `Read`, if the source fails, and `NoMemory`.
 ///
 /// # Errors
-/// The first fault of the text, with its line; `Read` if the source fails before it is found, and `NoMemory` if memory
-/// runs out.
+/// The first fault of the text, with its line; `Read` if the source fails before the result is known, and `NoMemory` if
+/// memory runs out.
 pub fn read_problem<R: Source>(alloc: Global, source: &mut R) -> Result<Problem, TextFault>
     ensures reads { IsReading R.Source problem_texts problem_is source.old source.new result }
     ensures named { IfOk result (λ problem. IsName (problem_is problem).name) }

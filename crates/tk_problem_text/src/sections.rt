@@ -1,4 +1,4 @@
-//! The sections of a problem, token by token.
+//! Reads the sections of a problem, token by token.
 pub mod begin;
 pub mod coordinates;
 pub mod demands;

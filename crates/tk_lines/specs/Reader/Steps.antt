@@ -85,7 +85,7 @@ abbrev pub TakesRun : {V S : Type 0} → Promise V S → PieceReader S → Piece
     Type 0
 TakesRun p old new bytes result = (before : List ℕ) → Fed p anything old before → HasRun p new before bytes result
 
--- ---- what ends
+-- ---- the ends of words, headers and tokens
 
 -- no word or token is open
 abbrev pub IsSettled : Place → Type 0

@@ -1,4 +1,4 @@
--- A section of a problem that begins.
+-- The beginning of a section of a problem.
 use Rattle.std.specs.Prelude.{IfErr, Result}
 use Rattle.tk_words.specs.declared.fault.TextKind.{TextKind}
 use Rattle.tk_problem_text.specs.declared.parts.Parts.{Parts}
@@ -19,7 +19,7 @@ use Rattle.tk_problem_text.specs.Reader.Demands.{HasDemands}
 use Rattle.tk_problem_text.specs.Reader.Weighing.{HasWeights}
 use Rattle.tk_problem_text.specs.Reader.DepotTaken.{HasDepot}
 
--- no token of the word's section was taken
+-- no token of the section of this word has been taken
 abbrev pub HasNoToken : List Piece → Keyword → OpenSection → Type 0
 HasNoToken before word Nothing = ⊥
 HasNoToken before word (Places s) = (word ≡ words.NodeCoordSection) × HasPlaces (size_of before) s []
@@ -30,23 +30,23 @@ HasNoToken before word (Loads s) =
 HasNoToken before word (Home s) = (word ≡ words.DepotSection) × HasDepot (size_of before) s []
 HasNoToken before word (Display left) = (word ≡ words.DisplayDataSection) × (left ≡ 3 * size_of before)
 
--- whether a problem's section came, of the words that it can have
+-- whether the section of a word has been read; None if problems have no such section
 abbrev pub came : List Piece → Keyword → Option Bool
 came ps word = if is_known_section word then Some (has word ps) else None
 
--- nothing that must stand before the section is missing, and none of its tokens was taken
+-- the section passes the tests that depend on its word, and none of its tokens has been taken
 pub record IsReady (before : List Piece) (word : Keyword) (s : OpenSection) : Type 0 where
   pub tests : (n : ℕ) → first_at n (section_tests before word) ≡ None
   pub untouched : HasNoToken before word s
 
--- the section of a word on this line begins
+-- the section of this word begins on this line
 pub record IsBegunSection (before : List Piece) (word : Keyword) (n : ℕ) (s : OpenSection) : Type 0 where
   pub sized : has words.Dimension before ≡ true
   pub fresh : has word before ≡ false
   pub none : first_at n (word_tests before word) ≡ None
   pub begun : IsOpen before word n [] s
 
--- the section of a word does not begin
+-- the section of this word is refused, with the fault of the first test that is true
 abbrev pub RefusesToBegin : Parts → Keyword → Result OpenSection TextKind → Type 0
 RefusesToBegin parts word result =
     (before : List Piece) (n : ℕ) → HasParts parts before →

@@ -1,4 +1,4 @@
--- What the reader of coordinates has taken.
+-- The state of the reader of coordinates.
 use Rattle.std.specs.Prelude.{◌≡◌, ◌<◌, ◌*◌, ◌≤◌, ℕ, List, [], ◌∷◌, ◌++◌, length, Some}
 use Rattle.std.specs.Int.RustNames.{unsigned_abs}
 use Rattle.tk_problem.specs.Places.{greatest_coordinate}
@@ -10,13 +10,13 @@ use Rattle.tk_words.specs.Lex.{Token}
 use Rattle.tk_problem_text.specs.Reader.Nodes.{Named, HasNamed, HasNext}
 use Rattle.tk_problem_text.specs.Sections.Rows.{place_rows, nodes_in, row_places}
 
--- the places by node, the nodes that were named, and what is wanted next
+-- the coordinates of the nodes, the nodes that have been named, and what is expected next
 pub record Placing : Type 0 where
   pub places : List Point
   pub nodes : Named
   pub wanted : Wanted
 
--- an index within the places, and a coordinate within its limit
+-- the index is one of a node, and the coordinate is within its limit
 abbrev pub IsWantedWithin : ℕ → Wanted → Type 0
 IsWantedWithin size wants.Node = Unit {0}
 IsWantedWithin size (wants.X index) = index < size
@@ -26,14 +26,14 @@ pub record IsPlacing (places : List Point) (nodes : Named) (wanted : Wanted) : T
   pub sizes : length nodes.flags ≡ length places
   pub within : IsWantedWithin (length places) wanted
 
--- the tokens of a row that is not whole, after rows that name these nodes
+-- the tokens of an incomplete row, after rows that name these nodes
 abbrev pub HasPart : ℕ → Named → List ℕ → Wanted → List Token → Type 0
 HasPart n s nodes wants.Node part = (part ≡ []) × HasNamed n s nodes
 HasPart n s nodes (wants.X index) part = (a : Token) × (part ≡ a ∷ []) × HasNext n s nodes a index
 HasPart n s nodes (wants.Y index x) part =
     (a b : Token) × (part ≡ a ∷ b ∷ []) × HasNext n s nodes a index × (decimal_of b.bytes ≡ Some x)
 
--- these tokens of the rows of n nodes were taken: whole rows, and a part of one
+-- the reader has taken these tokens of the rows of n nodes: complete rows, and a part of one
 pub record HasPlaces (n : ℕ) (s : Placing) (toks : List Token) : Type 0 where
   pub rows : List Token
   pub part : List Token

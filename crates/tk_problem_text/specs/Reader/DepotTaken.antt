@@ -1,4 +1,4 @@
--- What the reader of the depot has taken.
+-- The state of the reader of the depot.
 use Rattle.std.specs.Prelude.{IfErr, IfOk, Result}
 use Rattle.tk_lines.specs.Reader.Forms.{IsToldWord, whole}
 use Rattle.std.specs.Prelude.{◌≡◌, ◌≤◌, ℕ, Bool, true, false, not, ◌&&◌, ◌||◌, List, [], ◌∷◌, ◌++◌, Option, Some, None}
@@ -14,12 +14,12 @@ use Rattle.tk_problem_text.specs.Sections.Rows.{number_in}
 use Rattle.tk_problem_text.specs.Sections.FixedSections.{all_tests, tokens_stop}
 use Rattle.tk_problem_text.specs.Sections.DepotList.{depot_tests}
 
--- the node that the only token names, or no token
+-- the node that the only token names, or None if there is no token
 abbrev pub IsDepot : ℕ → Option ℕ → List Token → Type 0
 IsDepot n None toks = toks ≡ []
 IsDepot n (Some node) toks = (t : Token) × (toks ≡ t ∷ []) × (number_in t ≡ node) × (1 ≤ node) × (node ≤ n)
 
--- of n nodes, these tokens were taken
+-- the reader has taken these tokens, in a problem with n nodes
 pub record HasDepot (n : ℕ) (s : Depot) (toks : List Token) : Type 0 where
   pub size : s.size ≡ n
   pub node : IsDepot n s.node toks
@@ -28,7 +28,7 @@ pub record HasDepot (n : ℕ) (s : Depot) (toks : List Token) : Type 0 where
 abbrev pub is_list_end : Token → Bool
 is_list_end t = is_ending t || t.whole && is_eof t.bytes
 
--- what a token does after these tokens
+-- the effect of a token after these tokens
 abbrev pub DepotTakes : ℕ → Depot → Depot → List Token → Token → Taken → Type 0
 DepotTakes n old new toks t takens.More = HasDepot n new (toks ++ t ∷ [])
 DepotTakes n old new toks t takens.Last = ⊥
@@ -36,7 +36,7 @@ DepotTakes n old new toks t takens.Ending = (new ≡ old) × (is_empty toks ≡ 
 DepotTakes n old new toks t takens.Eof =
     (new ≡ old) × (is_empty toks ≡ false) × (is_ending t ≡ false) × ((t.whole && is_eof t.bytes) ≡ true)
 
--- a token of the list at which the first test that holds tells this kind
+-- a token of the list, refused with the fault of its first test that is true
 pub record DepotRefuses (n : ℕ) (toks : List Token) (t : Token) (k : TextKind) : Type 0 where
   pub goes : (not (is_empty toks) && is_list_end t) ≡ false
   pub fault : first_at t.line (all_tests (depot_tests n) toks t) ≡ Some (Fault t.line k)

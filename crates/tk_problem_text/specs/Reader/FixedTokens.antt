@@ -1,4 +1,4 @@
--- How a reader stands in a section of a fixed count, and what it makes of a token of it.
+-- The state of a reader in a section with a fixed number of tokens, and how it handles one of them.
 use Rattle.std.specs.Prelude.{◌≡◌, ◌<◌, ℕ, suc, ◌==◌, List, [], ◌∷◌, ◌++◌, length, Some, None, if◌then◌else◌, Result}
 use Rattle.std.specs.Prelude.{IfOk, IfErr}
 use Rattle.tk_words.specs.declared.fault.TextKind.{TextKind}
@@ -10,25 +10,25 @@ use Rattle.tk_lines.specs.Pieces.{Piece, After, Fault, Format, first_at, or_else
 use Rattle.tk_lines.specs.Reader.Forms.{IsToldWord, whole}
 use Rattle.tk_problem_text.specs.Sections.FixedSections.{TokenTests, fixed_end, fixed_extent, tokens_stop}
 
--- what a token does after those before it
+-- the effect of a token after these tokens
 abbrev pub fixed_taken : ℕ → List Token → Taken
 fixed_taken count before = if suc (length before) == count then takens.Last else takens.More
 
--- a section of a fixed count, at whose word nothing stops
+-- a section with a fixed number of tokens, whose word has no fault
 pub record IsFixed {V : Type 0} (f : Format V) (before : List Piece) (word : Keyword) (n : ℕ) (tests : TokenTests)
     (count : ℕ) : Type 0 where
   pub extent : (toks : List Token) → f.extent before word toks ≡ fixed_extent count toks
   pub section : (toks : List Token) (after : After) →
       f.section before word n toks after ≡ or_else (tokens_stop tests [] toks) (fixed_end after)
 
--- these tokens of it have no fault, and more are to come
+-- these tokens of the section have no fault, and more are to come
 pub record HasTokens {V : Type 0} (f : Format V) (before : List Piece) (word : Keyword) (n : ℕ) (tests : TokenTests)
     (count : ℕ) (toks : List Token) : Type 0 where
   pub fixed : IsFixed f before word n tests count
   pub good : tokens_stop tests [] toks ≡ None
   pub fewer : length toks < count
 
--- a token after those that it has: nothing speaks against it, and it is kept
+-- a token after these is taken: it has no fault, and it is stored
 abbrev pub TakesFixed : {S : Type 0} → (S → List Token → Type 0) → TokenTests → ℕ → List ℕ → S → S →
     Result Taken TextKind → Type 0
 TakesFixed has tests count token old new result =

@@ -1,4 +1,4 @@
--- What is kept of the headers among a problem's pieces.
+-- The stored headers, and the pieces of a problem that they come from.
 use Rattle.std.specs.Prelude.{◌≡◌, ◌≤◌, List, [], length, unwrap_or}
 use Rattle.tk_problem.specs.declared.limits.TheConstants.{CAPACITY_LIMIT, CITY_LIMIT}
 use Rattle.tk_words.specs.declared.keyword.Keyword.TheVariants as words

@@ -1,4 +1,4 @@
--- The section of a problem whose tokens come.
+-- The section of a problem that is being read.
 use Rattle.std.specs.Prelude.{IfErr, IfOk, Result}
 use Rattle.std.specs.Prelude.{◌≡◌, ◌≤◌, ◌+◌, ◌*◌, ◌++◌, ℕ, true, List, length, map, slice_index, Option, Some, None, []}
 use Rattle.tk_problem.specs.declared.limits.TheConstants.{TABLE_LIMIT}
@@ -24,22 +24,22 @@ use Rattle.tk_problem_text.specs.Reader.Weighing.{HasWeights}
 use Rattle.tk_problem_text.specs.Reader.DepotTaken.{HasDepot}
 use Rattle.tk_problem_text.specs.Sections.DepotList.{depot_tests}
 
--- the section of a depot, at whose word nothing stops, and tokens of it without a fault
+-- a depot section whose word has no fault, and tokens of it without a fault
 pub record HasDepotTokens (before : List Piece) (n : ℕ) (toks : List Token) : Type 0 where
   pub word : first_at n (word_tests before words.DepotSection) ≡ None
   pub few : length toks ≤ 1
   pub good : tokens_stop (depot_tests (size_of before)) [] toks ≡ None
 
--- tokens of a section of a fixed count, without a fault
+-- tokens without a fault, of a section with a fixed number of tokens
 abbrev pub HasSome : List Piece → Keyword → ℕ → List Token → Type 0
 HasSome before word n toks = HasTokens problem_format before word n (token_tests before word) (wanted before word) toks
 
--- the formats of weights that are listed
+-- the format of the weights has been read, and determines their number
 abbrev pub IsListed : List Piece → Type 0
 IsListed before = (has words.EdgeWeightFormat before ≡ true)
     × (wanted before words.EdgeWeightSection ≡ weight_count (size_of before) (format_in before))
 
--- after these pieces, these tokens of the word's section were taken, and more are to come
+-- after these pieces, these tokens of the word's section have been taken, and more are to come
 abbrev pub IsOpen : List Piece → Keyword → ℕ → List Token → OpenSection → Type 0
 IsOpen before word n toks Nothing = ⊥
 IsOpen before word n toks (Places s) =
@@ -55,18 +55,18 @@ IsOpen before word n toks (Home s) =
 IsOpen before word n toks (Display left) =
     (word ≡ words.DisplayDataSection) × HasSome before word n toks × (left + length toks ≡ 3 * size_of before)
 
--- a section of a fixed count of tokens
+-- a section with a fixed number of tokens
 abbrev pub IsCounted : OpenSection → Type 0
 IsCounted Nothing = ⊥
 IsCounted (Home s) = ⊥
 IsCounted _ = Unit {0}
 
--- a node of 1..n, the first one that is listed
+-- a node from 1 to n, the first in the list
 abbrev pub IsFirstNode : ℕ → ℕ → Option ℕ → Type 0
 IsFirstNode n first None = ⊥
 IsFirstNode n first (Some node) = (node ≡ first) × (1 ≤ node) × (node ≤ n)
 
--- these are all of its tokens
+-- these are all tokens of the section
 abbrev pub IsFull : List Piece → Keyword → List Token → OpenSection → Type 0
 IsFull before word toks Nothing = ⊥
 IsFull before word toks (Places s) =
@@ -80,14 +80,14 @@ IsFull before word toks (Home s) =
     (word ≡ words.DepotSection) × IsFirstNode (size_of before) (slice_index (map number_in toks) 0) s.node
 IsFull before word toks (Display left) = word ≡ words.DisplayDataSection
 
--- these pieces are those after which it began, and the whole section
+-- the pieces are those before the section, followed by the whole section
 pub record IsPast (before : List Piece) (word : Keyword) (n : ℕ) (s : OpenSection) (ps : List Piece) : Type 0 where
   pub toks : List Token
   pub after : After
   pub are : ps ≡ before ++ a_section word n toks after
   pub full : IsFull before word toks s
 
--- a token of it is taken, or refused
+-- a token of the section is taken
 abbrev pub TakesOpen : List ℕ → OpenSection → OpenSection → Result Taken TextKind → Type 0
 TakesOpen token old new result =
     (before : List Piece) (word : Keyword) (n : ℕ) (toks : List Token) (line : ℕ) → IsOpen before word n toks old
@@ -100,13 +100,14 @@ RefusesOpen token old result =
     (before : List Piece) (word : Keyword) (n : ℕ) (toks : List Token) (line : ℕ) → IsOpen before word n toks old
     → IfErr result (IsToldWord (StopsAt problem_format before word n toks (whole token line)))
 
--- the text may end after its tokens, or it is cut short there
+-- the text is allowed to end after the tokens of the section
 abbrev pub MayEnd : OpenSection → Type 0
 MayEnd s =
     (before : List Piece) (word : Keyword) (n : ℕ) (toks : List Token) (line : ℕ) → IsOpen before word n toks s
     → IsPast before word n s (before ++ a_section word n toks (Early line true))
     × (problem_format.section before word n toks (Early line true) ≡ None)
 
+-- the text is cut short after the tokens of the section
 abbrev pub IsCutShort : OpenSection → Type 0
 IsCutShort s =
     (before : List Piece) (word : Keyword) (n : ℕ) (toks : List Token) (line : ℕ) → IsOpen before word n toks s

@@ -1,4 +1,4 @@
--- What is kept of the pieces of a problem.
+-- The stored parts of a problem, and the pieces that they come from.
 use Rattle.std.specs.Prelude.{◌++◌, map, slice_index, true}
 use Rattle.tk_words.specs.Lex.{Token}
 use Rattle.tk_lines.specs.Pieces.{After, Piece, has}
@@ -24,13 +24,13 @@ use Rattle.tk_problem.specs.Shape.{WeightsFit, IsRouting}
 use Rattle.tk_problem_text.specs.Reader.Headers.{HasHeaders}
 use Rattle.tk_problem_text.specs.Problem as value
 
--- what a section gives is kept, once it came
+-- the contents of a section are stored once it has been read
 pub record KeepsValue {A B : Type 0} (word : Keyword) (view : A → B) (value : B) (kept : Option A)
     (ps : List Piece) : Type 0 where
   pub came : has word ps ≡ is_some kept
   pub is : IfSome kept (λ a. view a ≡ value)
 
--- no section came that rests on the size
+-- no section that depends on the number of nodes has been read
 pub record HasNoSection (ps : List Piece) : Type 0 where
   pub places : has words.NodeCoordSection ps ≡ false
   pub lower : has words.EdgeWeightSection ps ≡ false
@@ -52,7 +52,7 @@ pub record HasParts (p : Parts) (ps : List Piece) : Type 0 where
 
 -- ---- the problem that the parts make
 
--- the weights' parts are there, and fit n nodes
+-- the parts of the weights have been read, and fit n nodes
 abbrev pub MakesWeights : ℕ → Option WeightType → Option (List Point) → Option (Vec ℕ Global) → Type 0
 MakesWeights n None places lower = ⊥
 MakesWeights n (Some (types.Plane kind)) None lower = ⊥
@@ -65,7 +65,7 @@ weights_in (Some (types.Plane kind)) (Some places) lower = value.Points kind pla
 weights_in _ places (Some lower) = value.Lower lower.items
 weights_in _ places None = value.Lower []
 
--- the routing's parts are there, and fit n nodes
+-- the parts of the routing have been read, and fit n nodes
 abbrev pub MakesRouting : ℕ → Option ProblemType → Option ℕ → Option (Vec ℕ Global) → Option ℕ → Type 0
 MakesRouting n (Some kinds.Cvrp) (Some capacity) (Some demand) (Some depot) =
     IsRouting n (record { capacity = capacity; demand = demand; depot = depot })
@@ -77,7 +77,7 @@ routing_in (Some kinds.Cvrp) (Some capacity) (Some demand) (Some depot) =
     Some (record { capacity = capacity; demand = demand.items; depot = depot })
 routing_in _ capacity demand depot = None
 
--- the parts make a problem
+-- the parts describe a problem
 pub record IsWhole (p : Parts) : Type 0 where
   pub short : length p.headers.name.items ≤ 1024
   pub n : ℕ
@@ -95,14 +95,14 @@ problem_in p = record {
   routing = routing_in p.headers.problem_type p.headers.capacity p.demand p.depot;
 }
 
--- the places of NODE_COORD_SECTION are kept
+-- the coordinates of NODE_COORD_SECTION are stored
 abbrev pub KeepsPlaces : List Point → Parts → Parts → Type 0
 KeepsPlaces places old new =
     (ps : List Piece) (n : ℕ) (toks : List Token) (after : After) → HasParts old ps → has words.Dimension ps ≡ true →
     has words.NodeCoordSection ps ≡ false → places ≡ row_places (size_of ps) toks →
     HasParts new (ps ++ a_section words.NodeCoordSection n toks after)
 
--- the weights of EDGE_WEIGHT_SECTION are kept
+-- the weights of EDGE_WEIGHT_SECTION are stored
 abbrev pub KeepsLower : Vec ℕ Global → Parts → Parts → Type 0
 KeepsLower lower old new =
     (ps : List Piece) (n : ℕ) (toks : List Token) (after : After) → HasParts old ps → has words.Dimension ps ≡ true →
@@ -110,7 +110,7 @@ KeepsLower lower old new =
     has words.EdgeWeightFormat ps ≡ true → WeightsFit (size_of ps) (Lower lower) →
     HasParts new (ps ++ a_section words.EdgeWeightSection n toks after)
 
--- the demands of DEMAND_SECTION are kept
+-- the demands of DEMAND_SECTION are stored
 abbrev pub KeepsDemand : Vec ℕ Global → Parts → Parts → Type 0
 KeepsDemand demand old new =
     (ps : List Piece) (n : ℕ) (toks : List Token) (after : After) → HasParts old ps → has words.Dimension ps ≡ true →
@@ -118,7 +118,7 @@ KeepsDemand demand old new =
     size_of ps ≤ TABLE_LIMIT →
     HasParts new (ps ++ a_section words.DemandSection n toks after)
 
--- the node of DEPOT_SECTION is kept
+-- the node of DEPOT_SECTION is stored
 abbrev pub KeepsDepot : ℕ → Parts → Parts → Type 0
 KeepsDepot depot old new =
     (ps : List Piece) (n : ℕ) (toks : List Token) (after : After) → HasParts old ps → has words.Dimension ps ≡ true →

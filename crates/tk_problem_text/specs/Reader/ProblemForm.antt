@@ -1,4 +1,4 @@
--- What is held of a problem text's pieces.
+-- The guarantees of the form of problem texts.
 use Rattle.std.specs.Prelude.{◌≡◌, ℕ, true, false, List}
 use Rattle.tk_words.specs.declared.keyword.Keyword.{Keyword}
 use Rattle.tk_words.specs.declared.keyword.Keyword.TheVariants as words

@@ -1,4 +1,4 @@
--- What the reader of explicit weights has taken.
+-- The state of the reader of explicit weights.
 use Rattle.std.specs.Prelude.{Vec, ◌≡◌, ◌≤◌, ℕ, List}
 use Rattle.std.specs.declared.alloc.Global.{Global}
 use Rattle.tk_problem.specs.declared.weights.Weights.TheVariants as weights
@@ -10,13 +10,13 @@ use Rattle.tk_problem.specs.declared.weights.Format.{Format}
 use Rattle.tk_words.specs.Lex.{Token}
 use Rattle.tk_problem.specs.WeightsSoFar.{IsSoFar}
 
--- these tokens of a format for n cities, of which there may be 5,000, were taken
+-- the reader has taken these tokens of a format, for at most 5,000 cities
 pub record HasWeights (n : ℕ) (f : Format) (s : ExplicitWeights) (toks : List Token) : Type 0 where
   pub few : n ≤ TABLE_LIMIT
   pub format : s.format ≡ f
   pub so_far : IsSoFar s.lower f n (weights_in toks)
 
--- the weights that its tokens make
+-- the lower triangle that the tokens describe
 abbrev pub GivesLower : ExplicitWeights → Vec ℕ Global → Type 0
 GivesLower s lower =
     (n : ℕ) (f : Format) (toks : List Token) → HasWeights n f s toks → (lower.items ≡ lower_weights n f toks)

@@ -1,4 +1,4 @@
--- Sections of a fixed count of tokens.
+-- Sections with a fixed number of tokens.
 use Rattle.std.specs.Prelude.{ℕ, Bool, false, nat_le, min, List, [], ◌∷◌, ◌++◌, length, Option}
 use Rattle.std.specs.Prelude.{Some, None, if◌then◌else◌}
 use Rattle.tk_words.specs.declared.fault.TextKind.{TextKind}
@@ -8,15 +8,15 @@ use Rattle.tk_lines.specs.Pieces.{Extent, Stop, Fault, checked, or_else, After, 
 use Rattle.tk_words.specs.Entry.{is_keyword}
 use Rattle.tk_lines.specs.Lists.{trailing_stop}
 
--- the tests of a token after those before it
+-- the tests of a token, given the tokens before it
 abbrev pub TokenTests : Type 0
 TokenTests = List Token → Token → List (Bool × TextKind)
 
--- a token that stands for no number, and then its tests
+-- Truncated for a keyword; then the tests of the token
 abbrev pub all_tests : TokenTests → TokenTests
 all_tests tests before t = (is_keyword t.bytes, kinds.Truncated) ∷ tests before t
 
--- the first stop among a section's tokens
+-- the first stop among the tokens of a section
 unfoldable pub tokens_stop : TokenTests → List Token → List Token → Option Stop
 tokens_stop tests before [] = None
 tokens_stop tests before (t ∷ ts) =
@@ -26,7 +26,7 @@ abbrev pub fixed_extent : ℕ → List Token → Extent
 fixed_extent count toks =
     record { count = min count (length toks); closed = nat_le count (length toks); at_eof = false }
 
--- how the tokens end: too early is Truncated, where nothing more can follow
+-- the stop at the end of the tokens: Truncated if there are too few and no more can follow
 abbrev pub fixed_end : After → Option Stop
 fixed_end (Early line whole) = if whole then Some (Fault line kinds.Truncated) else None
 fixed_end after = trailing_stop after

@@ -13,11 +13,11 @@ use Rattle.tk_problem_text.specs.Sections.Rows.{number_in}
 use Rattle.tk_problem.specs.WeightOrder as Order
 use Rattle.tk_problem.specs.WeightOrder.{place, order, weight_of, entries}
 
--- how many weights a format has
+-- the number of weights of a format
 abbrev pub weight_count : ℕ → Format → ℕ
 weight_count n f = length (order f n)
 
--- the place of the entry after so many
+-- the cell of the entry after these tokens
 abbrev pub place_behind : ℕ → Format → List Token → Place
 place_behind n f before = slice_index_or (order f n) (length before) (place 0 0)
 
@@ -28,7 +28,8 @@ abbrev pub is_full : Format → Bool
 is_full FullMatrix = true
 is_full _ = false
 
--- an entry: an integer; off the diagonal 0 to 4·10^9; below the diagonal of a full matrix that of the other half
+-- the tests of an entry: an integer; off the diagonal, from 0 to 4·10^9; below the diagonal of a full matrix, equal to
+-- the weight above it
 abbrev pub weight_tests : ℕ → Format → List Token → Token → List (Bool × TextKind)
 weight_tests n f before t =
     let p = place_behind n f before in

@@ -22,11 +22,11 @@ use std::alloc::Global;
 use tk_problem::{Format, TABLE_LIMIT};
 use tk_words::{Keyword, TextKind};
 
-/// The section of a word, after these parts.
+/// Begins the section of a word, after these parts.
 ///
 /// # Errors
-/// The first thing that speaks against the section: `Unsupported`, `Repeated`, `Missing` or `OutOfLimit`, and
-/// `NoMemory` if there is no memory for what it holds.
+/// The first fault of the section's word: `Unsupported`, `Repeated`, `Missing` or `OutOfLimit`, or `NoMemory` if memory
+/// runs out.
 pub fn begin(alloc: Global, parts: &Parts, word: Keyword) -> Result<OpenSection, TextKind>
     ensures ok { (before : List Piece) (n : ℕ) → HasParts parts.now before
         → IfOk result (IsBegunSection before word n) }
@@ -47,7 +47,7 @@ pub fn begin(alloc: Global, parts: &Parts, word: Keyword) -> Result<OpenSection,
     begin_known(alloc, parts, word, problem_type, size)
 }
 
-/// Whether the section of a word came, `None` for a word of no section that problems have.
+/// Whether the section of a word has been read; `None` if problems have no such section.
 fn came(parts: &Parts, word: Keyword) -> Option<bool>
     ensures { (ps : List Piece) → HasParts parts.now ps → result ≡ Begun.came ps word }
 {
@@ -61,7 +61,7 @@ fn came(parts: &Parts, word: Keyword) -> Option<bool>
     }
 }
 
-/// The section of a word that problems have.
+/// Begins a section that problems can have.
 fn begin_known(
     alloc: Global,
     parts: &Parts,
@@ -141,7 +141,7 @@ fn begin_weights(alloc: Global, parts: &Parts, size: u32) -> Result<OpenSection,
     Ok(OpenSection::Explicit(ExplicitWeights::new(alloc, size, format)?))
 }
 
-/// The format of weights that are explicit and listed.
+/// The format of weights that are explicit and listed; `None` for other weights.
 fn listed(weight_type: WeightType, weight_format: WeightFormat) -> Option<Format>
     ensures { result ≡ (if is_explicit (Some weight_type) then listed_format (Some weight_format) else None) }
 {

@@ -1,4 +1,4 @@
-//! The coordinates of a problem, token by token.
+//! Reads the coordinates of a problem, token by token.
 ghost use Rattle.std.specs.Prelude.{◌≡◌, ◌*◌, ◌<◌, ◌≤◌, ℕ, List, [], length, IfOk, IfErr};
 ghost use Rattle.std.specs.Prelude.{OnErr};
 ghost use Rattle.tk_words.specs.Lex.{Token};
@@ -12,7 +12,7 @@ use tk_lines::Taken;
 use tk_problem::{Point, Points};
 use tk_words::{Lexeme, TextKind};
 
-/// What the next token of a row of coordinates is.
+/// The meaning of the next token in a row of coordinates.
 #[derive(Clone, Copy, Debug, PartialEq, Eq)]
 enum Wanted {
     Node,
@@ -20,7 +20,7 @@ enum Wanted {
     Y { index: usize, x: i64 },
 }
 
-/// NODE_COORD_SECTION: a node, x and y for each of n nodes.
+/// NODE_COORD_SECTION: a row with a node, x and y for each of n nodes.
 #[derive(Drop)]
 pub struct Coordinates {
     places: Points,
@@ -41,10 +41,10 @@ impl Model for Coordinates {
 impl Coordinates {
     ghost use Rattle.tk_problem_text.specs.Reader.Coordinates.{HasPlaces};
 
-    /// Of n nodes, none of them placed.
+    /// The section of n nodes, before its first token.
     ///
     /// # Errors
-    /// `NoMemory` if there is no memory for n places.
+    /// `NoMemory` if memory runs out.
     pub fn new(alloc: Global, n: u32) -> Result<Self, TextKind>
         ensures ok { IfOk result (λ s. HasPlaces n s []) }
         ensures err { IfErr result (λ k. k ≡ TextKind.NoMemory) }
@@ -59,7 +59,7 @@ impl Coordinates {
         }
     }
 
-    /// Takes a token. After an error nothing was taken.
+    /// Takes a token. If there is an error, nothing changes.
     pub fn take(&mut self, token: &Lexeme) -> Result<Taken, TextKind>
         requires { length token.now ≤ 64 }
         ensures ok { (n : ℕ) → TakesFixed (HasPlaces n) (place_tests n) (3 * n) token.now self.old self.new result }
@@ -89,7 +89,7 @@ impl Coordinates {
         Ok(Taken::More)
     }
 
-    /// The places by node.
+    /// The coordinates of the nodes, in the order of their numbers.
     pub fn into_places(self) -> Points
         ensures { (n : ℕ) (toks : List Token) → HasPlaces n self toks → length toks ≡ 3 * n
             → result ≡ row_places n toks }

@@ -1,4 +1,4 @@
-//! The demands of a problem, token by token.
+//! Reads the demands of a problem, token by token.
 ghost use Rattle.std.specs.Prelude.{◌≡◌, ◌*◌, ◌<◌, ℕ, List, [], length, None, Some, IfOk, IfErr, OnErr};
 ghost use Rattle.tk_words.specs.Lex.{Token};
 ghost use Rattle.tk_problem_text.specs.Sections.Rows.{demand_tests, demands_of};
@@ -13,7 +13,7 @@ use tk_lines::Taken;
 use tk_problem::CAPACITY_LIMIT;
 use tk_words::{Lexeme, TextKind};
 
-/// DEMAND_SECTION: a node and its demand for each of n nodes.
+/// DEMAND_SECTION: a row with a node and its demand for each of n nodes.
 #[derive(Drop)]
 pub struct Demands {
     loads: Vec<u32>,
@@ -34,10 +34,10 @@ impl Model for Demands {
 impl Demands {
     ghost use Rattle.tk_problem_text.specs.Reader.Demands.{HasDemands};
 
-    /// Of n nodes, none of them named.
+    /// The section of n nodes, before its first token.
     ///
     /// # Errors
-    /// `NoMemory` if there is no memory for n demands.
+    /// `NoMemory` if memory runs out.
     pub fn new(alloc: Global, n: u32) -> Result<Self, TextKind>
         ensures ok { IfOk result (λ s. HasDemands n s []) }
         ensures err { IfErr result (λ k. k ≡ TextKind.NoMemory) }
@@ -52,7 +52,7 @@ impl Demands {
         }
     }
 
-    /// Takes a token. After an error nothing was taken.
+    /// Takes a token. If there is an error, nothing changes.
     pub fn take(&mut self, token: &Lexeme) -> Result<Taken, TextKind>
         ensures ok { (n : ℕ) → TakesFixed (HasDemands n) (demand_tests n) (2 * n) token.now self.old self.new result }
         ensures err { RefusesDemand token.now self.old result }
@@ -75,7 +75,7 @@ impl Demands {
         Ok(Taken::More)
     }
 
-    /// The demands by node.
+    /// The demands of the nodes, in the order of their numbers.
     pub fn into_loads(self) -> Vec<u32>
         ensures { (n : ℕ) (toks : List Token) → HasDemands n self toks → length toks ≡ 2 * n
             → result.items ≡ demands_of n toks }

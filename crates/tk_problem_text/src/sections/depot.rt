@@ -1,4 +1,4 @@
-//! The depot of a problem, token by token.
+//! Reads the depot of a problem, token by token.
 ghost use Rattle.std.specs.Prelude.{◌≡◌, ◌≤◌, ℕ, [], ◌∷◌, length, None, IfOk, IfErr, OnOk, OnErr};
 ghost use Rattle.tk_problem_text.specs.Sections.DepotList.{depot_tests};
 ghost use Rattle.tk_problem_text.specs.Reader.DepotTaken.{HasDepot, DepotTakes, DepotRefuses};
@@ -20,7 +20,7 @@ pub struct Depot {
 }
 
 impl Depot {
-    /// Of a problem of n nodes, before the depot.
+    /// The section of a problem with n nodes, before its first token.
     pub fn new(n: u32) -> Self
         ensures { HasDepot n result [] }
     {
@@ -30,9 +30,8 @@ impl Depot {
         }
     }
 
-    /// Takes a token. `BadDepot` where a number is no node of the problem, or not the only one,
-    /// `Truncated` for a word where a number is wanted, `BadNumber` for another token. After an
-    /// error nothing was taken.
+    /// Takes a token. `BadDepot` if a number is not a node of the problem, or not the only one; `Truncated` for a
+    /// keyword where a number is expected; `BadNumber` for any other token. If there is an error, nothing changes.
     pub fn take(&mut self, token: &Lexeme) -> Result<Taken, TextKind>
         requires { length token.now ≤ 64 }
         ensures ok { TakesDepot token.now self.old self.new result }
@@ -50,7 +49,7 @@ impl Depot {
     }
 }
 
-/// The node that a token names where none stands before it.
+/// The node that the first token names.
 fn first_node(token: &Lexeme, size: u32) -> Result<u32, TextKind>
     ensures node { IfOk result (IsNumber 1 size token.now) }
     ensures ok { (line : ℕ) → OnOk result (first_at line (all_tests (depot_tests size) [] (whole token.now line))
@@ -67,7 +66,7 @@ fn first_node(token: &Lexeme, size: u32) -> Result<u32, TextKind>
     }
 }
 
-/// What a token does after the node.
+/// The effect of a token after the node.
 fn behind_node(token: &Lexeme) -> Result<Taken, TextKind>
     ensures ok { (n : ℕ) (depot : Depot) (node : Token) (line : ℕ)
         → IfOk result (DepotTakes n depot depot (node ∷ []) (whole token.now line)) }

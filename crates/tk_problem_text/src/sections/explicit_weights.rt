@@ -1,4 +1,4 @@
-//! The explicit weights of a problem, token by token.
+//! Reads the explicit weights of a problem, token by token.
 ghost use Rattle.std.specs.Prelude.{◌≡◌, ◌≢◌, ◌<◌, ◌≤◌, ℕ, suc, List, [], ◌∷◌, ◌++◌, length, None, Some, pos};
 ghost use Rattle.std.specs.Prelude.{slice_get, nat_lt, ◌&&◌, IfOk, IfErr, IfSome, OnErr};
 ghost use Rattle.tk_problem.specs.declared.limits.TheConstants.{DISTANCE_LIMIT, TABLE_LIMIT};
@@ -17,7 +17,7 @@ use tk_lines::Taken;
 use tk_problem::{DISTANCE_LIMIT, Format, LowerWeights, Place};
 use tk_words::{Lexeme, TextKind, limited};
 
-/// EDGE_WEIGHT_SECTION: the weights of a format, kept as the lower triangle row by row without its diagonal.
+/// EDGE_WEIGHT_SECTION: the weights of a format, stored as the lower triangle, row by row, without its diagonal.
 #[derive(Drop)]
 pub struct ExplicitWeights {
     pub format: Format,
@@ -27,10 +27,10 @@ pub struct ExplicitWeights {
 impl ExplicitWeights {
     ghost use Rattle.tk_problem_text.specs.Reader.Weighing.{HasWeights};
 
-    /// Of n cities, before the first weight.
+    /// The section of n cities, before its first weight.
     ///
     /// # Errors
-    /// `NoMemory` if there is no memory for n (n - 1) / 2 weights.
+    /// `NoMemory` if memory runs out.
     pub fn new(alloc: Global, n: u32, format: Format) -> Result<Self, TextKind>
         requires { n ≤ TABLE_LIMIT }
         ensures ok { IfOk result (λ s. HasWeights n format s []) }
@@ -42,7 +42,7 @@ impl ExplicitWeights {
         }
     }
 
-    /// Takes a token. After an error nothing was taken.
+    /// Takes a token. If there is an error, nothing changes.
     #[inline(always)]
     pub fn take(&mut self, token: &Lexeme) -> Result<Taken, TextKind>
         ensures ok { (n : ℕ) (f : Format) → TakesFixed (HasWeights n f) (weight_tests n f) (weight_count n f)
@@ -64,7 +64,7 @@ impl ExplicitWeights {
         Ok(Taken::More)
     }
 
-    /// Puts a number at the next place. After an error nothing was put.
+    /// Stores a number in the next cell, or skips a cell of the diagonal. If there is an error, nothing changes.
     #[inline(always)]
     fn put(&mut self, number: i64) -> Result<(), TextKind>
         requires { 0 < length self.old.lower.places }
@@ -86,7 +86,7 @@ impl ExplicitWeights {
         Ok(())
     }
 
-    /// The weight that a number gives the next pair.
+    /// The weight that a number in the next cell specifies.
     #[inline(always)]
     fn weight(&self, number: i64) -> Result<u32, TextKind>
         requires more { 0 < length self.now.lower.places }
@@ -108,7 +108,7 @@ impl ExplicitWeights {
         Ok(weight)
     }
 
-    /// A weight below the diagonal of a full matrix, which is that above it.
+    /// A weight below the diagonal of a full matrix; `NotSymmetric` unless it equals the weight above the diagonal.
     fn again(&self, place: Place, weight: u32) -> Result<u32, TextKind>
         requires next { slice_get self.now.lower.places 0 ≡ Some place }
         requires below { place.column < place.row }
@@ -125,7 +125,7 @@ impl ExplicitWeights {
         Err(TextKind::NotSymmetric(place.column.saturating_add(1), place.row.saturating_add(1)))
     }
 
-    /// Whether a full matrix has the pair of a place already.
+    /// Whether this cell of a full matrix repeats a pair that has been read.
     #[inline(always)]
     fn repeats(&self, place: Place) -> bool
         ensures { result ≡ (is_full self.now.format && nat_lt place.column place.row) }
@@ -136,7 +136,7 @@ impl ExplicitWeights {
         }
     }
 
-    /// The lower triangle, at the end.
+    /// The lower triangle, after the last weight.
     pub fn into_lower(self) -> Vec<u32>
         ensures { GivesLower self result }
     {

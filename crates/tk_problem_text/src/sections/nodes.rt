@@ -12,7 +12,7 @@ use std::alloc::Global;
 use std::marker::Model;
 use tk_words::{Lexeme, TextKind};
 
-/// Which of the nodes 1 to n were named.
+/// Which of the nodes 1 to n have been named.
 #[derive(Drop)]
 pub struct Nodes {
     named: Vec<bool>,
@@ -28,10 +28,10 @@ impl Model for Nodes {
 }
 
 impl Nodes {
-    /// None of n nodes named.
+    /// None of n nodes has been named.
     ///
     /// # Errors
-    /// `NoMemory` if there is no memory for n flags.
+    /// `NoMemory` if memory runs out.
     pub fn new(alloc: Global, n: u32) -> Result<Self, TextKind>
         ensures ok { IfOk result (λ s. HasNamed n s []) }
         ensures err { IfErr result (λ k. k ≡ TextKind.NoMemory) }
@@ -42,8 +42,8 @@ impl Nodes {
         }
     }
 
-    /// Names a node, and answers it counted from 0. `BadNumber` where the token is no integer,
-    /// `BadNode` where it is no node or was named before.
+    /// Names a node, and returns its index, counted from 0. `BadNumber` if the token is not an integer, `BadNode` if it
+    /// is not a node or has been named before.
     pub fn name(&mut self, token: &Lexeme) -> Result<usize, TextKind>
         ensures index { IfOk result (λ index. index < length self.old.flags) }
         ensures flags { length self.new.flags ≡ length self.old.flags }
@@ -60,7 +60,7 @@ impl Nodes {
         Ok(index)
     }
 
-    /// Whether all nodes were named.
+    /// Whether all nodes have been named.
     pub fn are_all(&self) -> bool
         ensures { result ≡ (self.now.left == 0) }
     {
@@ -68,8 +68,8 @@ impl Nodes {
     }
 }
 
-/// A node of 1 to `count`, counted from 0. `BadNumber` where the token is no integer, `BadNode` for
-/// another number.
+/// The index of a node from 1 to `count`, counted from 0. `BadNumber` if the token is not an integer, `BadNode` if it
+/// is another number.
 fn node_of(token: &Lexeme, count: usize) -> Result<usize, TextKind>
     ensures index { IfOk result (λ index. index < count) }
     ensures ok { IfOk result (λ index. Lex.integer token.now ≡ Some (pos (suc index))) }

@@ -1,4 +1,4 @@
-//! The section of a problem whose tokens come.
+//! The section of a problem that is being read.
 ghost use Rattle.std.specs.Prelude.{◌≡◌, ◌≤◌, ◌-◌, ◌==◌, true, false, length, if◌then◌else◌, OnErr};
 ghost use Rattle.tk_words.specs.Entry.{is_keyword};
 ghost use Rattle.tk_problem_text.specs.Reader.OpenSections.{IsCounted, IsCutShort, MayEnd, RefusesOpen, TakesOpen};
@@ -10,10 +10,10 @@ use crate::sections::explicit_weights::ExplicitWeights;
 use tk_lines::Taken;
 use tk_words::{Lexeme, TextKind};
 
-/// The section whose tokens come.
+/// The section that is being read.
 #[derive(Drop)]
 pub enum OpenSection {
-    /// None.
+    /// No section.
     Nothing,
     /// NODE_COORD_SECTION.
     Places(Coordinates),
@@ -23,12 +23,12 @@ pub enum OpenSection {
     Loads(Demands),
     /// DEPOT_SECTION.
     Home(Depot),
-    /// DISPLAY_DATA_SECTION, of which so many tokens are left.
+    /// DISPLAY_DATA_SECTION, with the number of tokens that are still to come.
     Display(u32),
 }
 
 impl OpenSection {
-    /// Takes a token. After an error nothing was taken.
+    /// Takes a token. If there is an error, nothing changes.
     ///
     /// # Errors
     /// The fault of the token in this section.
@@ -48,7 +48,7 @@ impl OpenSection {
         self.take_number(token)
     }
 
-    /// Takes a token that is no word, in a section of a fixed count.
+    /// Takes a token that is not a keyword, in a section with a fixed number of tokens.
     #[inline(always)]
     fn take_number(&mut self, token: &Lexeme) -> Result<Taken, TextKind>
         requires { length token.now ≤ 64 }
@@ -65,7 +65,7 @@ impl OpenSection {
         }
     }
 
-    /// Whether the text may end after the tokens that were taken: only after a depot.
+    /// Whether the text is allowed to end after the tokens that were taken, which is so only after a depot.
     pub fn may_end(&self) -> bool
         ensures yes { result ≡ true → MayEnd self.now }
         ensures no { result ≡ false → IsCutShort self.now }
@@ -77,7 +77,7 @@ impl OpenSection {
     }
 }
 
-/// One token less is to come.
+/// Counts a token down, and returns whether it was the last one.
 fn count(left: &mut u32) -> Taken
     ensures last { result ≡ (if left.new == 0 then Taken.Last else Taken.More) }
     ensures fewer { left.new ≡ left.old - 1 }

@@ -6,8 +6,7 @@ ghost use Rattle.tk_words.specs.Entry.{number_tests};
 
 use tk_words::{Lexeme, TextKind};
 
-/// An integer from `low` to `high`. `BadNumber` where the token is no integer, `OutOfLimit` for
-/// another number.
+/// An integer from `low` to `high`. `BadNumber` if the token is not an integer, `OutOfLimit` if it is another number.
 pub fn number_of(token: &Lexeme, low: u32, high: u32) -> Result<u32, TextKind>
     ensures value { IfOk result (λ value. Lex.integer token.now ≡ Some (pos value)) }
     ensures limits { IfOk result (λ value. (low ≤ value) × (value ≤ high)) }
