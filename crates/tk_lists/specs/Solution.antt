@@ -19,7 +19,7 @@ use Rattle.tk_lists.specs.declared.texts.SolText.{SolText}
 
 -- ---- the head of a Route line
 
--- it is cut short; it is of another form; or these bytes come after its colon
+-- a head that is cut short; a malformed head; or these bytes after the colon of a head
 pub data Head : Type 0 where
   Short : Head
   Bad : Head
@@ -29,14 +29,14 @@ abbrev pub colon_head : List ℕ → Head
 colon_head [] = Short
 colon_head (b ∷ bs) = if b == 58 then Behind bs else Bad
 
--- the digits of an integer, of which k stand before these bytes, then blanks and a colon
+-- the digits of an integer, of which k come before these bytes, then blanks and a colon
 abbrev pub digits_head : ℕ → List ℕ → Head
 digits_head k bs =
     let count = k + length (front is_ascii_digit bs) in
     let rest = colon_head (behind is_blank (behind is_ascii_digit bs)) in
     if nat_lt 18 count then Bad else (if count == 0 then (if is_empty bs then Short else Bad) else rest)
 
--- without a first byte that passes
+-- the bytes without the first one, if it satisfies p
 abbrev pub without_first : (ℕ → Bool) → List ℕ → List ℕ
 without_first p [] = []
 without_first p (b ∷ bs) = if p b then bs else b ∷ bs
@@ -51,23 +51,23 @@ is_hash b = b == 35
 abbrev pub number_head : List ℕ → Head
 number_head bs = digits_head 0 (without_first is_sign (behind is_blank bs))
 
--- the same after blanks and an optional #
+-- blanks, an optional #, blanks, an integer, blanks and a colon
 abbrev pub route_head : List ℕ → Head
 route_head bs = number_head (without_first is_hash (behind is_blank bs))
 
--- ---- what a line is
+-- ---- lines
 
 pub data SolutionLine : Type 0 where
-  -- blanks alone
+  -- only blanks
   Empty : SolutionLine
-  -- more bytes may make its word Route or Cost
+  -- a line whose word may still become Route or Cost
   Unsure : SolutionLine
   Other : SolutionLine
-  -- a Route line whose head is cut short, or is of another form, or with these customers
+  -- a Route line with a head that is cut short, with a malformed head, or with these customers
   ShortRoute : SolutionLine
   BadRoute : SolutionLine
   Route : (customers : List Token) → SolutionLine
-  -- what comes after Cost
+  -- a Cost line, with the tokens after its word
   Cost : (tokens : List Token) → SolutionLine
 
 abbrev pub route_line : ℕ → Bool → Head → SolutionLine
@@ -75,20 +75,20 @@ route_line n whole Short = ShortRoute
 route_line n whole Bad = BadRoute
 route_line n whole (Behind bs) = Route (tokens_of whole n bs)
 
--- the bytes begin to spell the text
+-- the bytes spell the beginning of the text
 abbrev pub begins : List ℕ → List ℕ → Bool
 begins bs text = spells bs (take (length bs) text)
 
 abbrev pub may_be_word : List ℕ → Bool
 may_be_word bs = begins bs (codes "ROUTE") || begins bs (codes "COST")
 
--- a line by its word and what comes after it
+-- a line, given its word and the bytes after it
 abbrev pub by_word : ℕ → Bool → List ℕ → List ℕ → SolutionLine
 by_word n whole word tail =
     if spells word (codes "ROUTE") then route_line n whole (route_head tail)
     else (if spells word (codes "COST") then Cost (tokens_of whole n (after_word tail)) else Other)
 
--- a line that begins with no blank; whole: nothing follows on it
+-- a line without leading blanks; whole: no more bytes follow on it
 abbrev pub solid_line : ℕ → Bool → List ℕ → SolutionLine
 solid_line n whole [] = if whole then Empty else Unsure
 solid_line n whole (b ∷ bs) =
@@ -109,7 +109,7 @@ abbrev pub routes_in : List SolutionLine → List (List ℕ)
 routes_in [] = []
 routes_in (l ∷ ls) = routes_on l ++ routes_in ls
 
--- how many customers stand on the lines
+-- the number of customers on a line
 abbrev pub count_on : SolutionLine → ℕ
 count_on (Route toks) = length toks
 count_on _ = 0
@@ -134,7 +134,7 @@ abbrev pub cost_on : SolutionLine → ℤ
 cost_on (Cost (t ∷ ts)) = integer_or_zero (integer t.bytes)
 cost_on _ = pos 0
 
--- the first one that is told
+-- the cost on the first Cost line
 abbrev pub cost_of : List SolutionLine → ℤ
 cost_of [] = pos 0
 cost_of (l ∷ ls) = let rest = cost_of ls in if is_cost l then cost_on l else rest
@@ -155,7 +155,7 @@ solution_of ls = (routes_in ls, cost_of ls)
 
 -- ---- the first fault
 
--- what stops at a customer, of which k stand before it
+-- the tests of a customer, given the number of customers before it
 abbrev pub customer_tests : ℕ → Token → List (Bool × TextKind)
 customer_tests k t = (is_none (integer t.bytes), kinds.BadNumber)
     ∷ (not (in_range 0 4294967295 (integer t.bytes)) || nat_le ENTRY_LIMIT k, kinds.OutOfLimit) ∷ []
@@ -175,7 +175,7 @@ abbrev pub line_trailing_stop : ℕ → List Token → Option Stop
 line_trailing_stop n [] = None
 line_trailing_stop n (t ∷ ts) = Some (Fault n kinds.TrailingData)
 
--- a number is missing, where nothing more can stand on the line
+-- the stop if a number is missing: a fault if the line is complete
 abbrev pub cut_short : ℕ → Bool → Option Stop
 cut_short n whole = if whole then Some (Fault n kinds.BadNumber) else Some Open
 
@@ -187,7 +187,7 @@ abbrev pub cost_stop : ℕ → Bool → List Token → Option Stop
 cost_stop n whole [] = cut_short n whole
 cost_stop n whole (t ∷ ts) = or_else (checked 64 t (cost_number_tests t)) (line_trailing_stop n ts)
 
--- the tests of a Route line's word, and of Cost
+-- the tests of the word of a Route line
 abbrev pub route_tests : List SolutionLine → List (Bool × TextKind)
 route_tests before =
     (has_cost before, kinds.TrailingData) ∷ (nat_le ROUTE_LIMIT (length (routes_in before)), kinds.OutOfLimit) ∷ []
@@ -198,7 +198,7 @@ cost_tests before = (has_cost before, kinds.TrailingData) ∷ []
 abbrev pub other_tests : List SolutionLine → List (Bool × TextKind)
 other_tests before = (not (has_cost before), kinds.UnknownKeyword) ∷ []
 
--- what stops at line n
+-- the stop on line n, if there is one
 abbrev pub line_stop : List SolutionLine → ℕ → Bool → SolutionLine → Option Stop
 line_stop before n whole Empty = None
 line_stop before n whole Unsure = Some Open
@@ -209,21 +209,21 @@ line_stop before n whole (Route toks) =
     or_else (first_at n (route_tests before)) (customers_stop (count_of before) toks)
 line_stop before n whole (Cost toks) = or_else (first_at n (cost_tests before)) (cost_stop n whole toks)
 
--- at the end of line n, of which whole says that it ends the text
+-- the result at the end of the last line, line n; whole: no more bytes follow
 abbrev pub solution_at_end : List SolutionLine → ℕ → Bool → Option (Result Solution TextFault)
 solution_at_end before n whole =
     if not whole then None
     else (if has_cost before then Some (Ok (solution_of before))
     else Some (Err (record { line = n; kind = kinds.Missing words.Cost })))
 
--- what the lines say after these, of which line n is the last
+-- the result of the lines after `before`, the last of which is line n
 unfoldable pub judge_lines : List SolutionLine → ℕ → Bool → List Line → Option (Result Solution TextFault)
 judge_lines before n whole [] = solution_at_end before n whole
 judge_lines before n whole (l ∷ ls) =
     let here = line_of l.number l.whole l.bytes in
     stopped (line_stop before l.number l.whole here) (judge_lines (before ++ here ∷ []) l.number l.whole ls)
 
--- what bytes decide: all of the text where it has ended, else what it begins with
+-- the result that bytes decide: of the whole text if it has ended, otherwise of every text that begins with them
 unfoldable pub solution_decided : Bool → List ℕ → Option (Result Solution TextFault)
 solution_decided ended bs = judge_lines [] 1 ended (lines ended 1 bs)
 

@@ -21,7 +21,7 @@ abbrev pub tour_extent : List Piece → Keyword → List Token → Extent
 tour_extent before words.TourSection toks = list_extent toks
 tour_extent before _ toks = record { count = 0; closed = true; at_eof = false }
 
--- what stops at an entry, of which k stand before it
+-- the tests of an entry, given the number of entries before it
 abbrev pub entry_tests : ℕ → Token → List (Bool × TextKind)
 entry_tests k t = (is_keyword t.bytes, kinds.Truncated) ∷ (is_none (integer t.bytes), kinds.BadNumber)
     ∷ (not (in_range 0 4294967295 (integer t.bytes)) || nat_le ENTRY_LIMIT k, kinds.OutOfLimit) ∷ []
@@ -34,7 +34,7 @@ unfoldable pub entries_stop : ℕ → List Token → Option Stop
 entries_stop k [] = None
 entries_stop k (t ∷ ts) = or_else (entry_stop k t) (entries_stop (suc k) ts)
 
--- the tests of a header, besides its length
+-- the tests of a header, apart from its length
 abbrev pub tour_header : List Piece → Keyword → List ℕ → List (Bool × TextKind)
 tour_header before words.Name bs =
     (nat_lt 1024 (length (trim (after_word bs))), kinds.TooLong) ∷ (has words.Name before, kinds.Repeated) ∷ []
@@ -45,7 +45,7 @@ tour_header before words.Dimension bs =
     (has words.Dimension before, kinds.Repeated) ∷ number_tests 1 ENTRY_LIMIT (first_word bs)
 tour_header before _ bs = (true, kinds.Unsupported) ∷ []
 
--- what stops at a section: its word, its tokens, and what comes after its last token on that token's line
+-- the stop at a section: at its word, at its tokens, or after its last token on the line of that token
 abbrev pub tour_section : List Piece → Keyword → ℕ → List Token → After → Option Stop
 tour_section before words.TourSection n toks after =
     or_else (first_at n ((has words.TourSection before, kinds.Repeated) ∷ []))
@@ -57,7 +57,7 @@ tour_end before =
     if not (has words.Type before) then Some (kinds.Missing words.Type)
     else (if not (has words.TourSection before) then Some (kinds.Missing words.TourSection) else None)
 
--- what stands in a tour text
+-- the format of tour texts
 abbrev pub tour_format : Format (List ℕ)
 tour_format = record {
   extent = tour_extent;
@@ -67,7 +67,7 @@ tour_format = record {
   value = λ before. numbers_of (list_entries (tokens_in words.TourSection before));
 }
 
--- what bytes decide: all of the text where it has ended, else what it begins with
+-- the result that bytes decide: of the whole text if it has ended, otherwise of every text that begins with them
 abbrev pub tour_decided : Bool → List ℕ → Option (Result (List ℕ) TextFault)
 tour_decided = decided_by tour_format
 

@@ -1,29 +1,29 @@
-//! The head of a Route line, byte by byte.
+//! Reads the head of a Route line, byte by byte.
 ghost use Rattle.tk_lists.specs.Reader.SolutionReader.{IsHead, HasStepped};
 
 use tk_words::blank;
 
-/// Where a head goes on.
+/// The state within the head of a Route line.
 #[derive(Clone, Copy, PartialEq, Eq)]
 pub enum HeadPlace {
-    /// After the word: a `#` or the number.
+    /// After the word, before a `#` or the number.
     Word,
     /// Before the number.
     Number,
-    /// In the number, after its sign and as many digits.
+    /// In the number, after its sign and this many digits.
     Digits(u8),
     /// After the number.
     Colon,
 }
 
-/// What a byte does to a head.
+/// The effect of a byte on a head.
 #[derive(Clone, Copy, PartialEq, Eq)]
 pub enum HeadStep {
-    /// It goes on here.
+    /// The head continues in this state.
     At(HeadPlace),
-    /// It is whole.
+    /// The head is complete.
     Behind,
-    /// It is of another form.
+    /// The head is malformed.
     Bad,
 }
 

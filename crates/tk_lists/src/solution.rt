@@ -1,4 +1,4 @@
-//! Solution texts.
+//! Reads solution texts.
 ghost use Rattle.std.specs.Prelude.{◌≡◌, ◌^◌, ◌≤◌, ◌++◌, ◌∷◌, ℕ, List, [], refl, Ok};
 ghost use Rattle.tk_words.specs.Reading.{IsReading};
 ghost use Rattle.tk_lists.specs.Solution.{Solution, as_solution, lists_of, solution_texts};
@@ -11,7 +11,7 @@ use tk_problem::TEXT_LIMIT;
 use tk_words::{Keyword, Source, Step, TextFault, TextKind, TextReader, read_text};
 
 impl SolutionReader {
-    /// A fault on this line.
+    /// A fault on the current line.
     fn fault(&self, kind: TextKind) -> TextFault
         ensures { result ≡ record { line = self.now.line; kind = kind } }
     {
@@ -24,7 +24,7 @@ impl SolutionReader {
     /// Takes a byte.
     ///
     /// # Errors
-    /// The fault that the bytes up to this one show, with its line.
+    /// The fault that the bytes up to this one contain, with its line.
     fn feed_byte(&mut self, byte: u8) -> Result<(), TextFault>
         requires room { self.old.line ≤ 2 ^ 63 }
         requires known { (before : List ℕ) × FedLines self.old before }
@@ -101,12 +101,12 @@ impl TextReader for SolutionReader {
     }
 }
 
-/// Reads a solution text, as far as it takes to know the answer. What it answers is what every text says that begins
-/// with the bytes that it read, but for `Read`, where the source fails, and `NoMemory`.
+/// Reads a solution text, no further than its result requires. Every text that begins with the bytes read has this
+/// result, except for `Read`, if the source fails, and `NoMemory`.
 ///
 /// # Errors
-/// The first fault of the text, with its line; `Read` if the source fails before it is found, and `NoMemory` if memory
-/// runs out.
+/// The first fault of the text, with its line; `Read` if the source fails before the result is known, and `NoMemory` if
+/// memory runs out.
 pub fn read_solution<R: Source>(alloc: Global, source: &mut R) -> Result<SolText, TextFault>
     ensures reads { IsReading R.Source solution_texts as_solution source.old source.new result }
 {

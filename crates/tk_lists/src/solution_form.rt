@@ -1,4 +1,4 @@
-//! What a solution text says, line by line.
+//! The contents of a solution text, line by line.
 ghost use Rattle.std.specs.Prelude.{◌≡◌, ◌≤◌, ◌+◌, true, false, List, [], length, Some, IfOk};
 ghost use Rattle.std.specs.Prelude.{IfErr};
 ghost use Rattle.tk_words.specs.declared.fault.TextKind.TheVariants as kinds;
@@ -13,7 +13,7 @@ use std::mem;
 use tk_problem::{ENTRY_LIMIT, ROUTE_LIMIT};
 use tk_words::{TextKind, integer, limited};
 
-/// The routes and the cost of a text so far, and the route of its last line.
+/// The routes and the cost that have been read, and the route of the current line.
 #[derive(Drop)]
 pub struct SolutionForm {
     pub alloc: Global,
@@ -25,7 +25,7 @@ pub struct SolutionForm {
 }
 
 impl SolutionForm {
-    /// Before the first line.
+    /// No line has been read.
     pub fn new(alloc: Global) -> Self
         ensures { Keeps result [] [] }
     {
@@ -39,7 +39,7 @@ impl SolutionForm {
         }
     }
 
-    /// Whether a Route line may stand here.
+    /// Checks that a Route line is allowed here.
     ///
     /// # Errors
     /// `TrailingData` after the cost, `OutOfLimit` after 100,000 routes.
@@ -59,8 +59,8 @@ impl SolutionForm {
     /// Takes a customer of the route.
     ///
     /// # Errors
-    /// `BadNumber` if the token is no integer, `OutOfLimit` if the number is none of 32 bits or after 1,000,000
-    /// customers, and `NoMemory` if there is no memory for one more.
+    /// `BadNumber` if the token is not an integer, `OutOfLimit` if it does not fit into 32 bits or follows 1,000,000
+    /// customers, and `NoMemory` if memory runs out.
     pub fn take_customer(&mut self, bytes: &[u8]) -> Result<(), TextKind>
         requires { length bytes.now ≤ 64 }
         ensures ok { TakesCustomer bytes.now self.old self.new result }
@@ -84,10 +84,10 @@ impl SolutionForm {
         }
     }
 
-    /// Keeps the route.
+    /// Stores the route of the current line.
     ///
     /// # Errors
-    /// `NoMemory` if there is no memory for one more route.
+    /// `NoMemory` if memory runs out.
     pub fn end_route(&mut self) -> Result<(), TextKind>
         ensures ok { KeepsRoute self.old self.new result }
         ensures err { IfErr result (λ k. k ≡ kinds.NoMemory) }
@@ -100,7 +100,7 @@ impl SolutionForm {
         Ok(())
     }
 
-    /// Whether the line of the cost may stand here.
+    /// Checks that a Cost line is allowed here.
     ///
     /// # Errors
     /// `TrailingData` after the cost.
@@ -118,7 +118,7 @@ impl SolutionForm {
     /// Takes the cost.
     ///
     /// # Errors
-    /// `BadNumber` if the token is no integer, `OutOfLimit` if the number is negative.
+    /// `BadNumber` if the token is not an integer, `OutOfLimit` if the number is negative.
     pub fn take_cost(&mut self, bytes: &[u8]) -> Result<(), TextKind>
         requires { length bytes.now ≤ 64 }
         ensures ok { TakesCost bytes.now self.old self.new result }
@@ -135,7 +135,7 @@ impl SolutionForm {
         Ok(())
     }
 
-    /// Whether a line of another word may stand here.
+    /// Checks that a line with another word is allowed here.
     ///
     /// # Errors
     /// `UnknownKeyword` before the cost.

@@ -1,4 +1,4 @@
-//! The lines of a solution text, byte by byte.
+//! Reads the lines of a solution text, byte by byte.
 ghost use Rattle.std.specs.Prelude.{◌≡◌, ◌≤◌, true, false, List, [], ◌∷◌, length, Some, IfOk, IfErr};
 ghost use Rattle.tk_words.specs.Lex.{Token};
 ghost use Rattle.tk_lines.specs.Pieces.{Fault};
@@ -16,14 +16,14 @@ use crate::solution_form::SolutionForm;
 use std::alloc::Global;
 use tk_words::{Held, TextKind, blank, spelled, word_byte};
 
-/// Where a reader stands on a line.
+/// The state of a reader within a line.
 #[derive(Clone, Copy, PartialEq, Eq)]
 pub enum LinePlace {
-    /// Before its word.
+    /// Before the first word.
     Start,
-    /// In its word, which may become `Route` or `Cost`.
+    /// In the first word, which may become `Route` or `Cost`.
     Word,
-    /// On a line that is passed over.
+    /// On a line that is ignored.
     Skip,
     /// In the head of a Route line.
     Head(HeadPlace),
@@ -41,7 +41,7 @@ pub enum LinePlace {
     Close,
 }
 
-/// A word of a solution text.
+/// The first word of a line.
 #[derive(Clone, Copy, PartialEq, Eq)]
 pub enum LineWord {
     Route,
@@ -49,7 +49,7 @@ pub enum LineWord {
     Other,
 }
 
-/// Takes the bytes of a solution text, and keeps its routes and its cost.
+/// Reads the bytes of a solution text, and stores its routes and its cost.
 #[derive(Drop)]
 pub struct SolutionReader {
     pub line: u64,
@@ -58,21 +58,21 @@ pub struct SolutionReader {
     pub form: SolutionForm,
 }
 
-/// Whether bytes begin to spell a text in capitals.
+/// Whether these bytes spell the beginning of a text, which is in capitals. Their own case does not matter.
 fn begins(bytes: &[u8], text: &[u8]) -> bool
     ensures { result ≡ Rattle.tk_lists.specs.Solution.begins bytes.now text.now }
 {
     bytes.len() <= text.len() && spelled(bytes, &text[..bytes.len()])
 }
 
-/// Whether more bytes may make a word of these.
+/// Whether these bytes spell the beginning of `Route` or `Cost`.
 fn may_become_word(bytes: &[u8]) -> bool
     ensures { result ≡ may_be_word bytes.now }
 {
     begins(bytes, b"ROUTE") || begins(bytes, b"COST")
 }
 
-/// The word that bytes are.
+/// The word that these bytes spell.
 fn word_of(bytes: &[u8]) -> LineWord
     ensures { IsWordOf bytes.now result }
 {
@@ -86,7 +86,7 @@ fn word_of(bytes: &[u8]) -> LineWord
 }
 
 impl SolutionReader {
-    /// Before the first byte.
+    /// A reader that has read nothing.
     pub fn new(alloc: Global) -> Self
         ensures stands { StandsOnLine result [] [] }
         ensures line { result.line ≡ 1 }
@@ -100,7 +100,7 @@ impl SolutionReader {
         }
     }
 
-    /// Begins a token.
+    /// Begins a token with this byte.
     fn begin_token(&mut self, byte: u8, place: LinePlace)
         ensures kept { (self.new.line ≡ self.old.line) × (self.new.form ≡ self.old.form) }
         ensures begun { (self.new.held ≡ byte ∷ []) × (self.new.place ≡ place) }
@@ -110,7 +110,7 @@ impl SolutionReader {
         self.place = place;
     }
 
-    /// Passes over the rest of a line of another word.
+    /// Ignores the rest of a line with another word, which is allowed only after the cost.
     fn skip(&mut self, byte: u8) -> Result<(), TextKind>
         ensures line { self.new.line ≡ self.old.line }
         ensures ok { (before : List SolutionLine) → Keeps self.old.form before []
@@ -123,7 +123,7 @@ impl SolutionReader {
         Ok(())
     }
 
-    /// Takes a byte of a Route line's head.
+    /// Takes a byte of the head of a Route line.
     fn feed_head(&mut self, place: HeadPlace, byte: u8) -> Result<(), TextKind>
         requires { IsHead place }
         ensures line { self.new.line ≡ self.old.line }
@@ -169,7 +169,7 @@ impl SolutionReader {
         }
     }
 
-    /// Takes a byte of a line's word.
+    /// Takes a byte of the first word of a line, or the byte after it.
     fn feed_word(&mut self, byte: u8) -> Result<(), TextKind>
         requires { IsFront self.old.held }
         ensures line { self.new.line ≡ self.old.line }
@@ -201,7 +201,7 @@ impl SolutionReader {
         }
     }
 
-    /// Takes a byte of a customer.
+    /// Takes a byte of a customer, or the blank after it.
     fn feed_customer(&mut self, byte: u8) -> Result<(), TextKind>
         requires { length self.old.held ≤ 64 }
         ensures line { self.new.line ≡ self.old.line }
@@ -227,7 +227,7 @@ impl SolutionReader {
         Ok(())
     }
 
-    /// Takes a byte of the cost.
+    /// Takes a byte of the cost, or the blank after it.
     fn feed_digits(&mut self, byte: u8) -> Result<(), TextKind>
         requires { length self.old.held ≤ 64 }
         ensures line { self.new.line ≡ self.old.line }
@@ -252,10 +252,10 @@ impl SolutionReader {
         Ok(())
     }
 
-    /// Takes a byte that is no LF.
+    /// Takes a byte that is not an LF.
     ///
     /// # Errors
-    /// The fault that the bytes of the line up to this one show.
+    /// The fault that the bytes of the line up to this one contain.
     pub fn feed_line(&mut self, byte: u8) -> Result<(), TextKind>
         requires { (before : List SolutionLine) × (toks : List Token) × StandsOnLine self.old before toks }
         ensures line { self.new.line ≡ self.old.line }
@@ -298,7 +298,7 @@ impl SolutionReader {
         }
     }
 
-    /// Ends a line in its word.
+    /// Ends a line within its first word.
     fn end_word(&self) -> Result<(), TextKind>
         requires { IsLineWord self.now.held }
         ensures ok { (before : List SolutionLine) → Keeps self.now.form before []

@@ -1,4 +1,4 @@
-//! What a tour text and a solution text hold.
+//! The contents of a tour text and of a solution text.
 
 /// The numbers that a tour text lists.
 #[derive(Drop)]
@@ -6,7 +6,7 @@ pub struct TourText {
     pub cities: Vec<u32>,
 }
 
-/// The routes that a solution text lists, as numbers of customers, and the cost that it tells.
+/// The routes of a solution text, as lists of customer numbers, and the cost that it states.
 #[derive(Drop)]
 pub struct SolText {
     pub routes: Vec<Vec<u32>>,

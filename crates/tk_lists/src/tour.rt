@@ -1,4 +1,4 @@
-//! Tour texts.
+//! Reads tour texts.
 ghost use Rattle.std.specs.Prelude.{◌≡◌, ◌<◌, ℕ, true, false, List, [], length, Some, None, Ok, IfOk, IfErr};
 ghost use Rattle.tk_problem.specs.declared.limits.TheConstants.{ENTRY_LIMIT};
 ghost use Rattle.tk_words.specs.declared.fault.TextKind.TheVariants as kinds;
@@ -16,7 +16,7 @@ use tk_lines::{Form, PieceReader, Scan, Taken};
 use tk_problem::ENTRY_LIMIT;
 use tk_words::{Entry, Keyword, Lexeme, Source, TextFault, TextKind, limited, read_text};
 
-/// Which words a tour text has had.
+/// Which keywords of a tour text have been read.
 #[derive(Clone, Copy, Drop)]
 pub struct TourWords {
     pub name: bool,
@@ -25,14 +25,14 @@ pub struct TourWords {
     pub section: bool,
 }
 
-/// What a tour text has said so far.
+/// The contents of a tour text that have been read.
 #[derive(Drop)]
 pub struct TourForm {
     pub seen: TourWords,
     pub cities: Vec<u32>,
 }
 
-/// Notes a word that may come once.
+/// Notes a keyword; `Repeated` if it has been noted before.
 fn once(seen: &mut bool) -> Result<(), TextKind>
     ensures ok { IfOk result (λ _. (seen.old ≡ false) × (seen.new ≡ true)) }
     ensures err { IfErr result (λ k. (k ≡ kinds.Repeated) × (seen.old ≡ true)) }
@@ -45,7 +45,7 @@ fn once(seen: &mut bool) -> Result<(), TextKind>
 }
 
 impl TourForm {
-    /// Before the first header.
+    /// No header has been read.
     pub fn new(alloc: Global) -> Self
         ensures { TourHolds result [] }
     {
@@ -172,12 +172,12 @@ impl Form for TourForm {
     }
 }
 
-/// Reads a tour text, as far as it takes to know the answer. What it answers is what every text says that begins with
-/// the bytes that it read, but for `Read`, where the source fails, and `NoMemory`.
+/// Reads a tour text, no further than its result requires. Every text that begins with the bytes read has this result,
+/// except for `Read`, if the source fails, and `NoMemory`.
 ///
 /// # Errors
-/// The first fault of the text, with its line; `Read` if the source fails before it is found, and `NoMemory` if memory
-/// runs out.
+/// The first fault of the text, with its line; `Read` if the source fails before the result is known, and `NoMemory` if
+/// memory runs out.
 pub fn read_tour<R: Source>(alloc: Global, source: &mut R) -> Result<TourText, TextFault>
     ensures reads { IsReading R.Source tour_texts as_tour source.old source.new result }
 {

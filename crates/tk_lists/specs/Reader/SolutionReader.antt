@@ -1,4 +1,4 @@
--- A reader's place in a solution text.
+-- The state of a reader within a solution text.
 use Rattle.std.specs.Prelude.{◌≡◌, ◌<◌, ◌≤◌, ℕ, ◌+◌, Bool, true, false, List, [], ◌∷◌, ◌++◌, length, map, Option, Some}
 use Rattle.std.specs.Prelude.{None, Result, Ok, Err, codes}
 use Rattle.tk_words.specs.declared.fault.TextKind.{TextKind}
@@ -28,7 +28,7 @@ use Rattle.tk_lists.specs.Solution.{line_stop, judge_lines, solution_decided, so
 
 -- ---- the head of a Route line
 
--- what the bytes after a place make of the head
+-- the head of a line, given this state and the bytes that follow
 abbrev pub head_from : HeadPlace → List ℕ → Head
 head_from heads.Word bs = route_head bs
 head_from heads.Number bs = number_head bs
@@ -44,9 +44,9 @@ HasStepped p b (steps.At q) = IsHead q × ((bs : List ℕ) → head_from p (b �
 HasStepped p b steps.Behind = (bs : List ℕ) → head_from p (b ∷ bs) ≡ Behind bs
 HasStepped p b steps.Bad = (bs : List ℕ) → head_from p (b ∷ bs) ≡ Bad
 
--- ---- what is kept
+-- ---- the contents that are stored
 
--- of these lines, and of these customers on the line after them
+-- the form stores the contents of these lines, and of these customers on the line after them
 pub record Keeps (s : SolutionForm) (before : List SolutionLine) (toks : List Token) : Type 0 where
   pub routes : map (λ r. r.items) s.routes.items ≡ routes_in before
   pub route : s.route.items ≡ numbers_of toks
@@ -54,9 +54,9 @@ pub record Keeps (s : SolutionForm) (before : List SolutionLine) (toks : List To
   pub priced : s.priced ≡ has_cost before
   pub cost : s.cost ≡ cost_of before
 
--- ---- on a line
+-- ---- within a line
 
--- a line, by what comes after a place on it
+-- a line, given the state of its reader and the bytes that follow
 abbrev pub line_from : ℕ → List ℕ → List Token → LinePlace → List ℕ → Bool → SolutionLine
 line_from n held toks places.Start bs whole = line_of n whole bs
 line_from n held toks places.Word bs whole = solid_line n whole (held ++ bs)
@@ -69,26 +69,26 @@ line_from n held toks places.Price bs whole = Cost (tokens_of whole n bs)
 line_from n held toks places.Digits bs whole = Cost (tokens_of whole n (held ++ bs))
 line_from n held toks places.Close bs whole = Cost (toks ++ tokens_of whole n bs)
 
--- what a word is
+-- the word that these bytes spell
 abbrev pub IsWordOf : List ℕ → LineWord → Type 0
 IsWordOf bs line_words.Route = spells bs (codes "ROUTE") ≡ true
 IsWordOf bs line_words.Cost = (spells bs (codes "ROUTE") ≡ false) × (spells bs (codes "COST") ≡ true)
 IsWordOf bs line_words.Other = (spells bs (codes "ROUTE") ≡ false) × (spells bs (codes "COST") ≡ false)
 
--- bytes that more may make Route or Cost
+-- bytes that spell the beginning of Route or Cost
 abbrev pub IsFront : List ℕ → Type 0
 IsFront bs = (behind is_word_byte bs ≡ []) × (may_be_word bs ≡ true)
 
 abbrev pub IsLineWord : List ℕ → Type 0
 IsLineWord bs = (0 < length bs) × IsFront bs
 
--- a Route line may come after these lines, with these customers
+-- a Route line is allowed after these lines, with these customers
 pub record IsRoute (before : List SolutionLine) (toks : List Token) : Type 0 where
   pub priced : has_cost before ≡ false
   pub may : (n : ℕ) → first_at n (route_tests before) ≡ None
   pub fine : customers_stop (count_of before) toks ≡ None
 
--- the line Cost with this one number
+-- the current line is Cost with this one number, and has no fault
 pub record IsPriced (s : SolutionForm) (before : List SolutionLine) (n : ℕ) (toks : List Token) : Type 0 where
   pub price : Token
   pub is : toks ≡ price ∷ []
@@ -111,34 +111,34 @@ IsAtPlace s before held n toks places.Digits = (toks ≡ []) × Keeps s before [
     × IsToken held
 IsAtPlace s before held n toks places.Close = IsPriced s before n toks
 
--- the reader stands on a line after these lines
+-- the reader is on the line after these lines, and has read these tokens of it
 abbrev pub StandsOnLine : SolutionReader → List SolutionLine → List Token → Type 0
 StandsOnLine s before toks = IsAtPlace s.form before s.held s.line toks s.place
 
--- what is left of its line
+-- the current line of the reader, given the bytes that follow
 abbrev pub rest_of : SolutionReader → List Token → List ℕ → Bool → SolutionLine
 rest_of s toks = line_from s.line s.held toks s.place
 
--- a byte has brought it on
+-- the reader has taken a byte of its line
 pub record Went (before : List SolutionLine) (b : ℕ) (g : List ℕ → Bool → SolutionLine)
     (s : SolutionReader) : Type 0 where
   pub toks : List Token
   pub stands : StandsOnLine s before toks
   pub same : (bs : List ℕ) (whole : Bool) → g (b ∷ bs) whole ≡ rest_of s toks bs whole
 
--- a byte stops at its line, whatever follows
+-- a byte gives its line this fault, whatever follows
 abbrev pub LineStopsAt : List SolutionLine → ℕ → ℕ → (List ℕ → Bool → SolutionLine) → TextKind → Type 0
 LineStopsAt before n b g k = (bs : List ℕ) (whole : Bool) →
     line_stop before n whole (g (b ∷ bs) whole) ≡ Some (Fault n k)
 
--- a line has ended
+-- a line has ended without a fault, and its contents are stored
 pub record HasEndedLine (before : List SolutionLine) (n : ℕ) (here : SolutionLine) (s : SolutionForm) : Type 0 where
   pub fine : line_stop before n true here ≡ None
   pub keeps : Keeps s (before ++ here ∷ []) []
 
--- ---- in the text
+-- ---- within the text
 
--- what lines say, of which the first is told by what is left of it
+-- the result of the lines that follow; the first of them is the rest of the current line, which g completes
 unfoldable pub from : List SolutionLine → (List ℕ → Bool → SolutionLine) → List Line →
     Option (Result Solution TextFault)
 from before g [] = None
@@ -155,12 +155,12 @@ pub record FedLines (s : SolutionReader) (bs : List ℕ) : Type 0 where
   pub same : (ended : Bool) (more : List ℕ) →
       solution_decided ended (bs ++ more) ≡ from before (rest_of s toks) (lines ended s.line more)
 
--- the reader has taken these bytes, which decide nothing
+-- the reader has taken these bytes, which do not decide the result
 pub record SolutionWaits (s : SolutionReader) (bs : List ℕ) : Type 0 where
   pub fed : FedLines s bs
   pub undecided : solution_decided false bs ≡ None
 
--- a byte is taken, or it shows a fault
+-- a byte is taken, or the bytes have a fault
 abbrev pub HasTakenByte : SolutionReader → List ℕ → Result (Unit {0}) TextFault → Type 0
 HasTakenByte new bs (Ok _) = FedLines new bs
 HasTakenByte new bs (Err f) = IsFaultWith (Decides solution_texts bs) f

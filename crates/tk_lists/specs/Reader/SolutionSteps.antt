@@ -1,5 +1,4 @@
--- The steps of the reader of solutions: what it makes of a line, of a customer and of the cost, whatever lines it took
--- before.
+-- The steps of the reader of solutions: how it handles a line, a customer and the cost, whatever lines it took before.
 use Rattle.std.specs.Prelude.{◌≡◌, ℕ, ◌+◌, Bool, true, false, List, [], ◌∷◌, ◌++◌, length, Some, Result, IfOk, IfErr}
 use Rattle.tk_words.specs.declared.fault.TextKind.{TextKind}
 use Rattle.tk_words.specs.Lex.{Token}
@@ -12,13 +11,13 @@ use Rattle.tk_lists.specs.Solution.{line_stop, other_tests, route_tests}
 use Rattle.tk_lists.specs.Reader.SolutionReader.{HasEndedLine, IsPriced, IsRoute, Keeps, LineStopsAt, StandsOnLine}
 use Rattle.tk_lists.specs.Reader.SolutionReader.{Went, rest_of}
 
--- no route may stand here
+-- a Route line is not allowed here
 abbrev pub RefusesRoute : SolutionForm → Result (Unit {0}) TextKind → Type 0
 RefusesRoute form result =
     (before : List SolutionLine) (n : ℕ) → Keeps form before [] →
     IfErr result (IsToldWord (λ k. first_at n (route_tests before) ≡ Some (Fault n k)))
 
--- a customer of the route is taken, or refused
+-- a customer of the route is taken or refused
 abbrev pub TakesCustomer : List ℕ → SolutionForm → SolutionForm → Result (Unit {0}) TextKind → Type 0
 TakesCustomer token old new result =
     (before : List SolutionLine) (toks : List Token) (n : ℕ) → Keeps old before toks → IsRoute before toks →
@@ -30,19 +29,19 @@ RefusesCustomer token old result =
     IfErr result
     (IsToldWord (λ k. customer_stop (count_of before + length toks) (whole token n) ≡ Some (Fault n k)))
 
--- the route is kept
+-- the route is stored
 abbrev pub KeepsRoute : SolutionForm → SolutionForm → Result (Unit {0}) TextKind → Type 0
 KeepsRoute old new result =
     (before : List SolutionLine) (toks : List Token) → Keeps old before toks → IsRoute before toks →
     IfOk result (λ _. Keeps new (before ++ Route toks ∷ []) [])
 
--- no line of the cost may stand here
+-- a Cost line is not allowed here
 abbrev pub RefusesCostLine : SolutionForm → Result (Unit {0}) TextKind → Type 0
 RefusesCostLine form result =
     (before : List SolutionLine) (n : ℕ) → Keeps form before [] →
     IfErr result (IsToldWord (λ k. first_at n (cost_tests before) ≡ Some (Fault n k)))
 
--- the cost is taken, or refused
+-- the cost is taken or refused
 abbrev pub TakesCost : List ℕ → SolutionForm → SolutionForm → Result (Unit {0}) TextKind → Type 0
 TakesCost token old new result =
     (before : List SolutionLine) (n : ℕ) → Keeps old before [] → has_cost before ≡ false →
@@ -55,13 +54,13 @@ RefusesCost token old result =
     (IsToldWord (λ k. (ended : Bool) (toks : List Token) →
     cost_stop n ended (whole token n ∷ toks) ≡ Some (Fault n k)))
 
--- no line of another word may stand here
+-- a line with another word is not allowed here
 abbrev pub RefusesOther : SolutionForm → Result (Unit {0}) TextKind → Type 0
 RefusesOther form result =
     (before : List SolutionLine) (n : ℕ) → Keeps form before [] →
     IfErr result (IsToldWord (λ k. first_at n (other_tests before) ≡ Some (Fault n k)))
 
--- a byte of the line is taken, or the line stops at it
+-- a byte of the line is taken, or it gives the line a fault
 abbrev pub TakesLineByte : ℕ → SolutionReader → SolutionReader → Result (Unit {0}) TextKind → Type 0
 TakesLineByte byte old new result =
     (before : List SolutionLine) (toks : List Token) → StandsOnLine old before toks →
@@ -72,7 +71,7 @@ RefusesLineByte byte old result =
     (before : List SolutionLine) (toks : List Token) → StandsOnLine old before toks →
     IfErr result (IsToldWord (LineStopsAt before old.line byte (rest_of old toks)))
 
--- the line ends, or is refused
+-- the line ends without a fault, or is refused
 abbrev pub EndsLine : SolutionReader → SolutionReader → Result (Unit {0}) TextKind → Type 0
 EndsLine old new result =
     (before : List SolutionLine) (toks : List Token) → StandsOnLine old before toks →

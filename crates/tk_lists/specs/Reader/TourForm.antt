@@ -1,4 +1,4 @@
--- What is held of a tour text's pieces.
+-- The guarantees of the form of tour texts.
 use Rattle.std.specs.Prelude.{◌≡◌, ◌≤◌, ℕ, not, ◌||◌, nat_le, true, false, List, [], ◌∷◌, ◌++◌, Some, None, ℤ, pos}
 use Rattle.tk_problem.specs.declared.limits.TheConstants.{ENTRY_LIMIT}
 use Rattle.tk_words.specs.declared.keyword.Keyword.{Keyword}
@@ -12,7 +12,7 @@ use Rattle.tk_lines.specs.Reader.Forms.{Promise}
 use Rattle.tk_lines.specs.Lists.{list_entries, AreEntries}
 use Rattle.tk_lists.specs.Tour.{entries_stop, tour_format}
 
--- which headers stand among the pieces
+-- the headers among the pieces are those that have been noted
 pub record IsSeen (w : TourWords) (before : List Piece) : Type 0 where
   pub name : has words.Name before ≡ w.name
   pub kind : has words.Type before ≡ w.kind
@@ -42,12 +42,13 @@ tour_promise =
       complete = λ form. Unit {0};
     }
 
--- a number that a list takes next, and one that it doesn't, after so many
+-- a number is stored as the next entry of the list
 pub record IsNext (number : ℤ) (old new : List ℕ) : Type 0 where
   pub city : ℕ
   pub is : number ≡ pos city
   pub small : city ≤ 4294967295
   pub pushed : new ≡ old ++ city ∷ []
 
+-- the number is out of range, or comes after the maximum number of entries
 abbrev pub IsOut : ℤ → ℕ → Type 0
 IsOut number count = (not (in_range 0 4294967295 (Some number)) || nat_le ENTRY_LIMIT count) ≡ true
