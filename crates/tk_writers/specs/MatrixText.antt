@@ -6,7 +6,7 @@ use Rattle.tk_writers.specs.Written.{line, spaced_numbers}
 use Rattle.tk_problem.specs.declared.weights.Format.{Format}
 use Rattle.tk_problem.specs.WeightWords.{format_word}
 
--- a line of numbers, single spaces between them, and no line where there are none
+-- a line of numbers, separated by single spaces; without numbers there is no line
 abbrev pub number_line : List ℕ → List ℕ
 number_line [] = []
 number_line (x ∷ xs) = line (spaced_numbers (x ∷ xs))
@@ -20,7 +20,7 @@ matrix_head name n f = flat_map line
     ∷ (codes "EDGE_WEIGHT_FORMAT : " ++ format_word f)
     ∷ codes "EDGE_WEIGHT_SECTION" ∷ [])
 
--- row or column k, whose numbers are the table's
+-- the line of row or column k, with the numbers of the table
 abbrev pub matrix_line : ℕ → (ℕ → ℕ → ℕ) → Format → ℕ → List ℕ
 matrix_line n table f k = number_line (map (λ p. table p.0 p.1) (line_places n f k))
 
@@ -30,11 +30,11 @@ matrix_text name n table f =
     ++ flat_map (matrix_line n table f) (range_with_len 1 n)
     ++ line (codes "EOF")
 
--- calls at two of the cities 1 to n may be made, and give what the table has
+-- a function can be called with any two of the cities 1 to n, and returns the entry of the table
 pub record GivesTable (pre : ℕ → ℕ → Type 0) (post : ℕ → ℕ → ℤ → Type 0) (n : ℕ) (table : ℕ → ℕ → ℕ) : Type 0 where
   pub calls : (a b : ℕ) → 1 ≤ a → a ≤ n → 1 ≤ b → b ≤ n → pre a b
   pub gives : (a b : ℕ) (r : ℤ) → 1 ≤ a → a ≤ n → 1 ≤ b → b ≤ n → post a b r → r ≡ pos (table a b)
 
--- P of each table that calls give
+-- P is true of each table whose entries the function returns
 abbrev pub IfGives : (ℕ → ℕ → Type 0) → (ℕ → ℕ → ℤ → Type 0) → ℕ → ((ℕ → ℕ → ℕ) → Type 0) → Type 0
 IfGives pre post n P = (table : ℕ → ℕ → ℕ) → GivesTable pre post n table → P table

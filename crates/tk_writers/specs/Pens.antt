@@ -1,4 +1,4 @@
--- What is put into a pen.
+-- The text that is put into a pen.
 use Rattle.std.specs.Prelude.{◌≡◌, ℕ, Bool, List, ◌++◌, Option, Result, MatchResult}
 use Rattle.std.specs.Io.KnownBytes.{Appends}
 use Rattle.tk_writers.specs.declared.output.pen.Pen.{Pen}
@@ -6,19 +6,19 @@ use Rattle.tk_writers.specs.declared.output.pen.WriteFault.{WriteFault}
 use Rattle.tk_writers.specs.declared.output.sink.Sink.{Ghosts}
 use Rattle.tk_writers.specs.Puts.{IsPut, Stops}
 
--- a text was put into a pen
+-- this text has been put into the pen
 abbrev pub PenHolds : {W : Type 0} → Ghosts W → Option (List ℕ) → Bool → List ℕ →
     Pen W → Type 0
 PenHolds sink start failed text p = IsPut sink start failed text p.sink.now p.written p.stopped p.page
 
--- bytes are put after all that was put before
+-- bytes are appended to the text of the pen
 pub record Puts {W : Type 0} (sink : Ghosts W) (p q : Pen W)
     (bytes : List ℕ) : Type 0 where
   pub same : q.sink.ghost_name ≡ p.sink.ghost_name
   pub text : (start : Option (List ℕ)) (failed : Bool) (text : List ℕ) → PenHolds sink start failed text p →
       PenHolds sink start failed (text ++ bytes) q
 
--- a pen that ends leaves all that was put in its sink, or just the first bytes of it
+-- a pen that ends has written its whole text to its sink, or exactly the first bytes of it
 abbrev pub PenEnds : {W : Type 0} → Ghosts W → Pen W → W →
     Result (Unit {0}) WriteFault → Type 0
 PenEnds sink p w r =

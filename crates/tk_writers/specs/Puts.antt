@@ -1,12 +1,13 @@
--- What has gone out of a text that is put piece by piece.
+-- The part that has been written of a text that is put piece by piece.
 use Rattle.std.specs.Prelude.{◌≡◌, ℕ, ◌≤◌, ◌<◌, ◌^◌, ◌⊎◌, Bool, true, false, List, length, take, drop, Option, Result}
 use Rattle.std.specs.Prelude.{MatchResult}
 use Rattle.std.specs.Io.KnownBytes.{Appends}
 use Rattle.tk_writers.specs.declared.output.pen.WriteFault.{WriteFault}
 use Rattle.tk_writers.specs.declared.output.sink.Sink.{Ghosts}
 
--- a text was put: its first bytes are in a sink w after `start`, and the others wait on a page, or it has stopped
--- it stops where a write fails (or where a page would go out after 2^63 bytes); `failed` is whether one had failed
+-- a text has been put: its first bytes are in the sink w after `start`, and the others are on the page, or writing has
+-- stopped
+-- writing stops if a write fails, or if a page would be sent after 2^63 bytes; `failed` says whether a write had failed
 -- before
 pub record IsPut {W : Type 0} (sink : Ghosts W) (start : Option (List ℕ))
     (failed : Bool) (text : List ℕ) (w : W) (written : ℕ) (stopped : Bool) (page : List ℕ) : Type 0 where
@@ -15,14 +16,14 @@ pub record IsPut {W : Type 0} (sink : Ghosts W) (start : Option (List ℕ))
   pub waits : stopped ≡ false → (drop written text ≡ page) × (sink.broken w ≡ failed)
   pub stops : stopped ≡ true → (written < length text) × ((sink.broken w ≡ true) ⊎ (2 ^ 63 < length text))
 
--- of a text that did not go out whole, just the first bytes did, since a write failed (or the text is over 2^63 bytes)
+-- exactly the first bytes of a text were written, because a write failed or the text has more than 2^63 bytes
 pub record Stops {W : Type 0} (sink : Ghosts W) (start : Option (List ℕ))
     (text : List ℕ) (w : W) (fault : WriteFault) : Type 0 where
   pub part : fault.written < length text
   pub sent : Appends start (sink.taken w) (take fault.written text)
   pub cause : (sink.broken w ≡ true) ⊎ (2 ^ 63 < length text)
 
--- a sink v took a whole text and is w then, or took just the first bytes of it
+-- a sink, v before and w after, took a whole text or exactly the first bytes of it
 abbrev pub Writes : {W : Type 0} → Ghosts W → W → W → Result (Unit {0}) WriteFault → List ℕ →
     Type 0
 Writes sink v w r text =

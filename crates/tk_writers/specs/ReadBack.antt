@@ -1,4 +1,4 @@
--- What a matrix text, a solution text and a tour text say to a reader.
+-- How matrix texts, solution texts and tour texts are read back.
 use Rattle.std.specs.Prelude.{◌≡◌, ◌≢◌, ℕ, ◌-◌, ◌*◌, ◌^◌, ◌<◌, ◌≤◌, List, length, map, flat_map, None, Ok, pos}
 use Rattle.std.specs.List.{range_with_len, concat, AllByRecursion}
 use Rattle.tk_problem.specs.declared.limits.TheConstants.{DISTANCE_LIMIT, ENTRY_LIMIT, ROUTE_LIMIT}
@@ -13,12 +13,12 @@ use Rattle.tk_writers.specs.TourWritten.{tour_text}
 use Rattle.tk_problem_text.specs.Problem.{Lower, problem_texts}
 use Rattle.tk_problem_text.specs.Names.{IsName}
 
--- a text that keeps the limit of texts, and whose answer is this value
+-- a text within the length limit, whose answer is this value
 pub record IsReadBackAs {V : Type 0} (texts : Texts V TextFault) (text : List ℕ) (value : V) : Type 0 where
   pub fits : length text ≤ texts.limit
   pub answer : answer_of texts text ≡ Ok value
 
--- a table of weights as a problem can have them
+-- a table of weights that a problem can have
 pub record IsTable (n : ℕ) (table : ℕ → ℕ → ℕ) : Type 0 where
   pub symmetric : (a b : ℕ) → 1 ≤ a → a ≤ n → 1 ≤ b → b ≤ n → table a b ≡ table b a
   pub weights : (a b : ℕ) → 1 ≤ a → a ≤ n → 1 ≤ b → b ≤ n → a ≢ b → table a b ≤ DISTANCE_LIMIT
@@ -34,7 +34,7 @@ ReadsBack name n table f =
     IsReadBackAs problem_texts (matrix_text name n table f)
     (record { name = name; n = n; weights = Lower (lower_triangle n table); routing = None })
 
--- routes and a cost as a solution text can have them
+-- routes and a cost that a solution text can have
 pub record IsSolution (routes : List (List ℕ)) (cost : ℕ) : Type 0 where
   pub few : length routes ≤ ROUTE_LIMIT
   pub customers : length (concat routes) ≤ ENTRY_LIMIT
@@ -45,8 +45,7 @@ pub record IsSolution (routes : List (List ℕ)) (cost : ℕ) : Type 0 where
 abbrev pub SolutionReadsBack : List (List ℕ) → ℕ → Type 0
 SolutionReadsBack routes cost = IsReadBackAs solution_texts (solution_text routes cost) (routes, pos cost)
 
--- a name, a length and cities as a tour text can have them: after the name there is room for the length and the text's
--- ending
+-- a name, a length and cities that a tour text can have; the name leaves room for the length and the ending `.tour`
 pub record IsTourText (name : List ℕ) (size : ℕ) (cities : List ℕ) : Type 0 where
   pub named : IsName name
   pub room : length name ≤ 1000

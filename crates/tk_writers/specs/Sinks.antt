@@ -1,9 +1,9 @@
--- What callers see of a sink, and of a `ToWrite`.
+-- Sinks and `ToWrite`, as their callers see them.
 use Rattle.std.specs.Prelude.{◌≡◌, Bool, true}
 use Rattle.tk_writers.specs.declared.output.sink.Sink.{Ghosts}
 use Rattle.tk_writers.specs.declared.output.sink.ToWrite.{ToWrite}
 
--- whether a write to it has failed
+-- whether a write to this sink has failed
 abbrev pub has_write_failed : {W : Type 0} → ToWrite W → Bool
 has_write_failed sink = sink.failed
 

@@ -2,11 +2,11 @@
 use Rattle.std.specs.Prelude.{ℕ, ◌+◌, List, [], ◌∷◌, ◌++◌, codes, decimal}
 use Rattle.tk_writers.specs.Written.{line, spaced_numbers}
 
--- a route's number and its customers
+-- the line of a route: its number and its customers
 abbrev pub written_route : ℕ → List ℕ → List ℕ
 written_route number customers = line (codes "Route #" ++ decimal number ++ codes ": " ++ spaced_numbers customers)
 
--- routes, numbered from a number on
+-- the lines of routes, numbered from this number
 abbrev pub written_routes : ℕ → List (List ℕ) → List ℕ
 written_routes number [] = []
 written_routes number (r ∷ rs) = written_route number r ++ written_routes (number + 1) rs

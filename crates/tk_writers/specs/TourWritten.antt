@@ -2,7 +2,7 @@
 use Rattle.std.specs.Prelude.{ℕ, List, [], ◌∷◌, ◌++◌, codes, decimal, flat_map, length}
 use Rattle.tk_writers.specs.Written.{line}
 
--- the name of an instance and the tour's length name the tour
+-- the head of a tour text, which names the tour after its instance and its length
 abbrev pub tour_head : List ℕ → ℕ → ℕ → List (List ℕ)
 tour_head name size cities =
     (codes "NAME : " ++ name ++ codes "." ++ decimal size ++ codes ".tour")

@@ -1,16 +1,16 @@
--- Lines that are written. A number is written as `decimal` says.
+-- Lines of output. Numbers are written by `decimal`.
 use Rattle.std.specs.Prelude.{ℕ, List, [], ◌∷◌, ◌++◌, codes, decimal}
 use Rattle.std.specs.List.{join_by}
 
--- a line and its end
+-- a line with its line feed
 abbrev pub line : List ℕ → List ℕ
 line bytes = bytes ++ 10 ∷ []
 
--- numbers, single spaces between them
+-- numbers, separated by single spaces
 abbrev pub spaced_numbers : List ℕ → List ℕ
 spaced_numbers xs = join_by decimal (codes " ") xs
 
--- what a check says of a list: it is a tour, or the first fault
+-- the verdict on a list: it is a tour, or its first fault
 abbrev pub tour_line : ℕ → ℕ → List ℕ
 tour_line cities length = line (codes "tour of " ++ decimal cities ++ codes " cities, length " ++ decimal length)
 
@@ -24,6 +24,6 @@ out_of_range_line place city = line (codes "out of range at place " ++ decimal p
 abbrev pub repeated_city_line : ℕ → ℕ → List ℕ
 repeated_city_line place city = line (codes "repeated city at place " ++ decimal place ++ codes ": " ++ decimal city)
 
--- a city and those that are near it
+-- a city and its near list
 abbrev pub near_line : ℕ → List ℕ → List ℕ
 near_line city near = line (decimal city ++ codes ": " ++ spaced_numbers near)

@@ -17,7 +17,7 @@ use crate::output::pen::{Pen, WriteFault};
 use crate::output::sink::Sink;
 use tk_problem::{FORMATS, Format};
 
-/// The format of a word, if it is one.
+/// The format with this name; `None` if there is none.
 pub fn format_of(word: &str) -> Option<Format>
     ensures some { IfSome result (λ f. word.now ≡ format_word f) }
     ensures none { result ≡ None → (f : Format) → word.now ≢ format_word f }
@@ -35,7 +35,7 @@ fn is_by_columns(f: Format) -> bool
     )
 }
 
-/// The places of row or column k that a format has: from the first on, up to but not with the second.
+/// The range of positions in row or column k that a format contains: the first one, and the one after the last.
 fn places_on_line(n: u32, f: Format, k: u32) -> (u32, u32)
     requires city { (1 ≤ k) × (k ≤ n) }
     requires few { n ≤ TABLE_LIMIT }
@@ -52,7 +52,7 @@ fn places_on_line(n: u32, f: Format, k: u32) -> (u32, u32)
     }
 }
 
-/// The entry at place m of row or column k.
+/// The entry at position m of row or column k.
 fn entry<D: Fn(u32, u32) -> i64>(n: u32, d: &D, f: Format, k: u32, m: u32) -> u64
     requires k { (1 ≤ k) × (k ≤ n) }
     requires m { (1 ≤ m) × (m ≤ n) }
@@ -119,11 +119,11 @@ fn put_matrix<W: Sink, D: Fn(u32, u32) -> i64>(
     pen.put(b"EOF\n");
 }
 
-/// Writes a TSP with explicit weights: the distances that `d` gives of the cities 1 to `n`.
-/// A reader gives back the name and these distances, where a problem can have them (`read_back`).
+/// Writes a TSP with explicit weights: the distances of the cities 1 to `n`, as `d` returns them.
+/// If a problem can have this name and these distances, a reader returns them (`read_back`).
 ///
 /// # Errors
-/// That a write failed, and how many bytes of the text had gone out by then.
+/// A write failed; the fault contains the number of bytes that were written.
 pub fn write_matrix<W: Sink, D: Fn(u32, u32) -> i64>(
     w: &mut W,
     name: &[u8],

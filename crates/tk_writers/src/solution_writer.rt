@@ -1,4 +1,4 @@
-//! Writes the routes of a vehicle routing problem.
+//! Writes the routes of a CVRP.
 ghost use Rattle.std.specs.Prelude.{◌≤◌, length, pos, ◌≤ℤ◌, OnErr};
 ghost use Rattle.std.specs.List.{concat};
 ghost use Rattle.std.specs.Int.RustNames.{unsigned_abs};
@@ -13,7 +13,7 @@ ghost use Rattle.tk_writers.specs.Sinks.{IsBroken};
 use crate::output::pen::{Pen, WriteFault};
 use crate::output::sink::Sink;
 
-/// Writes a route's line.
+/// Writes the line of a route.
 fn put_route<W: Sink>(pen: &mut Pen<'_, W>, number: u64, customers: &[u32])
     ensures { Puts W.Sink pen.old pen.new (written_route number customers.now) }
 {
@@ -43,11 +43,11 @@ fn put_solution<W: Sink>(pen: &mut Pen<'_, W>, routes: &[Vec<u32>], cost: u64)
     pen.put(b"\n");
 }
 
-/// Writes routes, each a list of customers, and their cost. A reader gives back the same routes and the same cost,
-/// where a solution text can have them (`read_back`).
+/// Writes routes, each a list of customers, and their cost. If a solution text can have these routes and this cost, a
+/// reader returns them (`read_back`).
 ///
 /// # Errors
-/// That a write failed, and how many bytes of the text had gone out by then.
+/// A write failed; the fault contains the number of bytes that were written.
 pub fn write_solution<W: Sink>(w: &mut W, routes: &[Vec<u32>], cost: i64) -> Result<(), WriteFault>
     requires { pos 0 ≤ℤ cost }
     ensures text { Writes W.Sink w.old w.new result

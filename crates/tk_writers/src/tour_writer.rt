@@ -27,7 +27,7 @@ fn put_tour_head<W: Sink>(pen: &mut Pen<'_, W>, name: &[u8], size: u64, cities: 
     pen.put(b"\nTOUR_SECTION\n");
 }
 
-/// Writes each city on a line.
+/// Writes each city on a line of its own.
 fn put_cities<W: Sink>(pen: &mut Pen<'_, W>, cities: &[u32])
     ensures { Puts W.Sink pen.old pen.new (flat_map (λ c. line (decimal c)) cities.now) }
 {
@@ -46,11 +46,11 @@ fn put_tour<W: Sink>(pen: &mut Pen<'_, W>, name: &[u8], size: u64, cities: &[u32
     pen.put(b"-1\nEOF\n");
 }
 
-/// Writes a tour of an instance of this name: its length, and its cities in their order. A reader gives back the same
-/// cities, where a tour text can have them (`read_back`).
+/// Writes a tour of an instance with this name: its length, and its cities in their order. If a tour text can have this
+/// name, length and list of cities, a reader returns the cities (`read_back`).
 ///
 /// # Errors
-/// That a write failed, and how many bytes of the text had gone out by then.
+/// A write failed; the fault contains the number of bytes that were written.
 pub fn write_tour<W: Sink>(
     w: &mut W,
     name: &[u8],

@@ -1,12 +1,12 @@
-//! Bytes that wait to be written.
+//! A buffer for bytes that are to be written.
 ghost use Rattle.std.specs.Prelude.{◌≡◌, ◌+◌, ◌≤◌, List, [], ◌++◌, ℕ, length, take};
 
 use std::marker::Model;
 
-/// How many bytes a page holds at most.
+/// Maximum number of bytes in a page.
 const PAGE: usize = 8192;
 
-/// At most 8,192 bytes that wait to be written.
+/// A buffer of at most 8,192 bytes that are to be written.
 #[derive(Drop)]
 pub struct Page {
     bytes: [u8; PAGE],
@@ -32,7 +32,7 @@ impl Page {
         }
     }
 
-    /// How many more bytes it takes.
+    /// The number of bytes that still fit.
     #[inline(always)]
     pub(crate) fn room(&self) -> usize
         ensures { result + length self.now ≡ 8192 }
@@ -40,7 +40,7 @@ impl Page {
         PAGE - self.len
     }
 
-    /// The bytes.
+    /// The bytes of the page.
     pub(crate) fn as_slice(&self) -> &[u8]
         ensures bytes { result.now ≡ self.now }
         ensures few { length self.now ≤ 8192 }
@@ -48,7 +48,7 @@ impl Page {
         &self.bytes[..self.len]
     }
 
-    /// Adds bytes after the others.
+    /// Appends bytes.
     #[inline(always)]
     pub(crate) fn push(&mut self, bytes: &[u8])
         requires { length self.old + length bytes.now ≤ 8192 }
@@ -59,7 +59,7 @@ impl Page {
         self.len = end;
     }
 
-    /// Takes all bytes away.
+    /// Removes all bytes.
     pub(crate) fn clear(&mut self)
         ensures { self.new ≡ [] }
     {

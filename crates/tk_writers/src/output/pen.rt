@@ -1,4 +1,4 @@
-//! Texts that are written piece by piece.
+//! Pens, which write a text piece by piece.
 ghost use Rattle.std.specs.Prelude.{◌≡◌, ◌+◌, ◌≤◌, ◌<◌, ◌^◌, Bool, true, List, [], ℕ, length, take, Option};
 ghost use Rattle.std.specs.Prelude.{MatchResult};
 ghost use Rattle.std.specs.Io.KnownBytes.{Appends};
@@ -10,32 +10,32 @@ use crate::output::sink::Sink;
 use itoa::Buffer;
 use thiserror::Error;
 
-/// No page goes out after this many bytes: 2^63.
+/// After this many bytes, 2^63, no more pages are sent.
 const LONGEST: u64 = 1 << 63;
 
-/// A write failed, and exactly the first bytes of the text went out.
+/// A write failed, and exactly the first `written` bytes of the text were written.
 #[derive(Clone, Copy, Debug, PartialEq, Eq, Error)]
 #[error("a write failed after {written} bytes")]
 pub struct WriteFault {
-    /// How many bytes these are.
+    /// The number of bytes that were written.
     pub written: u64,
 }
 
 /// Writes a text to a sink through a page in memory.
 ///
-/// After a write that failed it writes no more, and `end` tells the fault.
+/// After a failed write it writes nothing more, and `end` returns the fault.
 #[derive(Drop)]
 pub struct Pen<'a, W> {
     pub sink: &'a mut W,
     pub page: Page,
-    /// How many bytes the sink has taken.
+    /// The number of bytes that the sink has taken.
     pub written: u64,
     /// Whether a write has failed.
     pub stopped: bool,
     ghost short: { written ≤ 2 ^ 63 + 8192 },
 }
 
-/// Writes bytes until the sink has taken them all or fails, and says how many it took.
+/// Writes bytes until the sink has taken all of them or fails, and returns the number of bytes that it took.
 fn write_whole<W: Sink>(sink: &mut W, bytes: &[u8]) -> usize
     ensures bound { result ≤ length bytes.now }
     ensures sent { Appends (W.taken sink.old) (W.taken sink.new) (take result bytes.now) }
@@ -52,7 +52,7 @@ fn write_whole<W: Sink>(sink: &mut W, bytes: &[u8]) -> usize
     taken
 }
 
-/// Sends a page after `written` bytes, and says how many have gone out then and whether it has stopped.
+/// Sends a page after `written` bytes. Returns the number of bytes written by then, and whether writing has stopped.
 fn send<W: Sink>(sink: &mut W, written: u64, stopped: bool, page: &[u8]) -> (u64, bool)
     requires count { written ≤ 2 ^ 63 + 8192 }
     requires page { length page.now ≤ 8192 }
@@ -110,7 +110,7 @@ impl<'a, W: Sink> Pen<'a, W> {
         }
     }
 
-    /// Writes bytes after all that was put before.
+    /// Appends bytes to the text.
     #[inline(always)]
     pub fn put(&mut self, bytes: &[u8])
         ensures { Puts W.Sink self.old self.new bytes.now }
@@ -137,7 +137,7 @@ impl<'a, W: Sink> Pen<'a, W> {
         self.page.push(rest);
     }
 
-    /// Sends what waits.
+    /// Sends the page, and empties it.
     fn send_page(&mut self)
         ensures puts { Puts W.Sink self.old self.new [] }
         ensures empty { self.new.page ≡ [] }
@@ -148,7 +148,7 @@ impl<'a, W: Sink> Pen<'a, W> {
         self.page.clear();
     }
 
-    /// Writes a number's decimal digits after all that was put before.
+    /// Appends the decimal digits of a number to the text.
     pub fn put_number(&mut self, number: u64)
         ensures { Puts W.Sink self.old self.new (decimal number) }
     {
@@ -156,7 +156,7 @@ impl<'a, W: Sink> Pen<'a, W> {
         self.put(buffer.format(number).as_bytes());
     }
 
-    /// The same for a number of up to 128 bits.
+    /// Appends the decimal digits of a number of up to 128 bits to the text.
     pub fn put_wide(&mut self, number: u128)
         ensures { Puts W.Sink self.old self.new (decimal number) }
     {
@@ -165,7 +165,7 @@ impl<'a, W: Sink> Pen<'a, W> {
         self.put(digits.as_bytes());
     }
 
-    /// Writes numbers, single spaces between them, after all that was put before.
+    /// Appends numbers to the text, separated by single spaces.
     pub fn put_spaced(&mut self, numbers: &[u32])
         ensures { Puts W.Sink self.old self.new (spaced_numbers numbers.now) }
     {
@@ -179,10 +179,10 @@ impl<'a, W: Sink> Pen<'a, W> {
         }
     }
 
-    /// Sends what waits. All that was put has gone out then, or the fault says how much of it.
+    /// Sends the last page. The whole text has been written then, unless there is a fault.
     ///
     /// # Errors
-    /// That a write failed, and how many bytes had gone out by then.
+    /// A write failed; the fault contains the number of bytes that were written.
     pub fn end(self) -> Result<(), WriteFault>
         ensures { PenEnds W.Sink self.entry self.exit.0.now result }
     {

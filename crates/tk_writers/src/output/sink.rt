@@ -1,4 +1,4 @@
-//! Where bytes go.
+//! Sinks, which take the bytes of a text.
 ghost use Rattle.std.specs.Prelude.{◌≡◌, ℕ, Bool, false, ◌||◌, List, Option};
 ghost use Rattle.std.specs.Io.{WritesAtMost};
 ghost use Rattle.std.specs.Io.KnownBytes.{WriteAppends};
@@ -7,26 +7,26 @@ ghost use Rattle.tk_writers.specs.Writes.{write_fails};
 use std::io::Write;
 use tk_words::Failed;
 
-/// What takes bytes.
+/// A destination for bytes.
 pub trait Sink {
-    /// The bytes taken, where these are told.
+    /// The bytes taken, if the contract of the sink specifies them.
     ghost taken: { Self → Option (List ℕ) };
 
     /// Whether a write has failed.
     ghost broken: { Self → Bool };
 
-    /// Takes some bytes from the front of a piece, and says how many.
+    /// Takes bytes from the front of a piece, and returns their number.
     fn write(&mut self, piece: &[u8]) -> Result<usize, Failed>
         ensures bound { WritesAtMost result piece.now }
         ensures bytes { WriteAppends (taken self.old) (taken self.new) result piece.now }
         ensures failed { broken self.new ≡ (broken self.old || write_fails result piece.now) };
 
-    /// Whether a write has failed: with an error, or by taking no byte of a piece that had some.
+    /// Whether a write has failed: with an error, or by taking no byte of a piece that is not empty.
     fn failed(&self) -> bool
         ensures { result ≡ broken self.now };
 }
 
-/// A sink over a writer of std.
+/// A sink that writes to a `Write` of the standard library.
 #[derive(Drop)]
 pub struct ToWrite<W> {
     pub inner: W,
