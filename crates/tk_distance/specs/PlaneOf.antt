@@ -1,4 +1,4 @@
--- The places of a metric in the plane.
+-- The points of a metric in the plane.
 use Rattle.std.specs.Prelude.{ℕ, List, ◌-◌, slice_index_or, ⊤}
 use Rattle.tk_problem.specs.declared.point.Point.{Point}
 use Rattle.tk_problem.specs.declared.points.Places.{Places}
@@ -8,7 +8,7 @@ use Rattle.tk_problem.specs.Places.{origin}
 use Rattle.tk_distance.specs.Distance.{IsDistanceOf}
 use Rattle.tk_distance.specs.PlaneDistance.{distance_of}
 
--- the place of city c, of cities numbered from 1
+-- the point of city c; cities are numbered from 1
 abbrev pub city_place : List Point → ℕ → Point
 city_place places c = slice_index_or places (c - 1) origin
 
@@ -20,7 +20,7 @@ city_distance kind places a b = distance_of kind (city_place places a) (city_pla
 abbrev pub IsCityDistance : PlaneKind → List Point → ℕ → ℕ → ℕ → Type 0
 IsCityDistance kind places a b d = IsDistanceOf kind (city_place places a) (city_place places b) d
 
--- places whose coordinates are all whole numbers of a unit, and kept as such
+-- points whose coordinates are all whole numbers of a unit, and are stored as such
 abbrev pub AreWhole : Places → Type 0
 AreWhole (Whole _ _) = ⊤
 AreWhole (Fine _) = ⊥

@@ -9,7 +9,7 @@ use Rattle.tk_distance.specs.PlaneOf.{city_place, city_distance}
 use Rattle.tk_distance.specs.Laws.Weights.{weight_between-swap, weight_between-same, weight_between-limit, few_cities}
 use Rattle.tk_distance.specs.Weights.{weight_between}
 
--- how many cities a table has
+-- the number of cities of a table
 abbrev pub table_size : Table → ℕ
 table_size (Planes m) = length (places_of m.places)
 table_size (Triangle m) = m.n

@@ -1,4 +1,4 @@
--- Places with x and y exchanged.
+-- Points with x and y swapped.
 use Rattle.tk_problem.specs.declared.point.Point.{Point}
 
 abbrev pub turned : Point → Point

@@ -1,11 +1,11 @@
--- Distances that a problem gives.
+-- The distances of a problem.
 use Rattle.std.specs.Prelude.{ℕ, List, ◌+◌, ◌-◌, ◌*◌, ◌/◌, ◌==◌, min, max, slice_index, if◌then◌else◌}
 use Rattle.tk_problem.specs.declared.weights.Weights.{Weights}
 use Rattle.tk_problem.specs.declared.weights.Weights.TheVariants.{Points, Lower}
 use Rattle.tk_distance.specs.PlaneOf.{city_distance}
 
--- where the weight of two cities stands, in a lower triangle row by row without its diagonal:
--- the rows of the cities 2 to high - 1 have 1, 2 .. high - 2 weights
+-- the index of the weight of two cities, in a lower triangle that is stored row by row without its diagonal: the rows
+-- of the cities 2 to high - 1 have 1, 2 .. high - 2 weights
 abbrev pub triangle_index : ℕ → ℕ → ℕ
 triangle_index low high = (high - 1) * (high - 2) / 2 + (low - 1)
 

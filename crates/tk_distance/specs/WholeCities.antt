@@ -1,4 +1,4 @@
--- Cities whose coordinates are whole numbers of a unit: their places in these, in place of units of 10^-9.
+-- Cities whose coordinates are whole numbers of a unit: their points in that unit instead of units of 10^-9.
 use Rattle.std.proofs.Common.{◌≡◌, ℕ, ◌-◌, ◌*◌, ◌≤◌, List, map, pos, arith}
 use Rattle.std.specs.Borrow.{Bor}
 use Rattle.std.specs.Prelude.{slice_index_or}
@@ -25,7 +25,7 @@ whole_origin = record { x = pos 0; y = pos 0; x_near = omega arith; y_near = ome
 abbrev pub whole_city : List WholePoint → ℕ → WholePoint
 whole_city places c = slice_index_or places (c - 1) whole_origin
 
--- the place of city c, in whole numbers of the unit
+-- the point of city c, in whole numbers of the unit
 abbrev pub whole_city_place : List WholePoint → ℕ → Point
 whole_city_place places c = record { x = (whole_city places c).x; y = (whole_city places c).y }
 
@@ -42,7 +42,7 @@ city_place-whole : (unit : Unit) (places : List WholePoint) (c : ℕ) →
 city_place-whole One places c = get_or-map (place_in One) places (c - 1) whole_origin
 city_place-whole unit places c = get_or-map (place_in unit) places (c - 1) whole_origin
 
--- at a greater difference in whole numbers of a unit the distance is no less
+-- the distance does not decrease when the difference in whole numbers of a unit grows
 pub whole_floor-rises : (unit : Unit) (s t : ℕ) → s ≤ t →
     distance_at Euc2d (s * step_of unit) 0 ≤ distance_at Euc2d (t * step_of unit) 0
 whole_floor-rises unit s t below = floor-rises Euc2d (s * step_of unit) (t * step_of unit)
@@ -55,7 +55,7 @@ module _ (unit : Unit) (places : Bor (List WholePoint)) (a b : ℕ) where
   in_units far here same floor =
       rw (city_place-whole unit places.now a, city_place-whole unit places.now b, ← same) floor
 
-  -- the distance at a difference in x alone, or in y alone, is at most the distance
+  -- the distance at a difference in x only, or in y only, is at most the distance
   pub whole_floor : distance_at Euc2d (gap (whole_city places.now a).x (whole_city places.now b).x * step_of unit) 0
       ≤ city_distance Euc2d (places_of (Whole unit places)) a b
   whole_floor =

@@ -1,4 +1,4 @@
-//! Distances of the commonest kind.
+//! EUC_2D distances of points in whole numbers of a unit, the most frequent distances.
 ghost use Rattle.std.specs.Prelude.{◌≤◌, ◌*◌, All, length};
 ghost use Rattle.tk_problem.specs.declared.limits.TheConstants.{CITY_LIMIT};
 ghost use Rattle.tk_problem.specs.Places.{IsNearOrigin};
@@ -11,8 +11,8 @@ use crate::metric::{BothAxes, Metric, Planar};
 use crate::planes::bound_of;
 use tk_problem::{PlaneKind, Point, Unit, WholePoint};
 
-/// The EUC_2D distances among places in whole numbers of a unit, as [`Planes`](crate::Planes) has them: neither the
-/// kind nor the form of the coordinates is looked up for each.
+/// The EUC_2D distances among points in whole numbers of a unit. They are those of [`Planes`](crate::Planes), without a
+/// dispatch on the type and on the representation of the coordinates for each distance.
 #[derive(Clone, Copy)]
 pub struct Euclid<'a> {
     pub unit: Unit,
@@ -79,7 +79,7 @@ impl Planar for Euclid<'_> {
 
     ghost floor_bounds = { λ m. whole_floor m.unit m.places };
 
-    /// The place of a city in whole numbers of the unit.
+    /// The coordinates of a city, in whole numbers of the unit.
     #[inline(always)]
     fn place(&self, c: u32) -> Point {
         let place = self.places[c as usize - 1];

@@ -1,4 +1,4 @@
-//! Distances by exact whole arithmetic: of coordinates that are whole numbers of a unit, and of others.
+//! Distances in exact integer arithmetic: of coordinates that are whole numbers of a unit, and of others.
 
 pub mod fine;
 pub mod guess;

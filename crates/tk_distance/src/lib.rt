@@ -1,4 +1,4 @@
-//! Exact distances.
+//! Exact distances of cities.
 #![tactic(auto)]
 
 mod euclid;

@@ -1,4 +1,4 @@
-//! What a distance is.
+//! The traits of distances.
 ghost use Rattle.std.specs.Prelude.{◌≡◌, ℕ, ℤ, ◌≤◌, ◌<ℤ◌, ◌↔◌, IsTrue, pos, ◌-ℤ◌};
 ghost use Rattle.std.specs.Int.RustNames.{unsigned_abs};
 ghost use Rattle.tk_distance.specs.Distance.{reach};
@@ -10,13 +10,13 @@ use tk_problem::Point;
 
 /// Symmetric distances among the cities 1 to `size`.
 pub trait Metric {
-    /// How many cities there are.
+    /// The number of cities.
     ghost size_of: { Self → ℕ };
 
     /// The table of distances.
     ghost distance: { Self → ℕ → ℕ → ℕ };
 
-    /// How many cities there are: at most 100,000.
+    /// The number of cities, at most 100,000.
     fn size(&self) -> u32
         ensures { result ≡ size_of self.now };
 
@@ -26,7 +26,7 @@ pub trait Metric {
         requires b { IsCity (size_of self.now) b }
         ensures { result ≡ pos (distance self.now a b) };
 
-    /// Whether two cities are nearer than a limit.
+    /// Whether the distance of two cities is less than a limit.
     #[inline]
     fn is_nearer(&self, a: u32, b: u32, limit: i64) -> bool
         requires a { IsCity (size_of self.now) a }
@@ -45,20 +45,20 @@ pub trait Metric {
     ghost distance_limit: { (m : Self) (a b : ℕ) → distance m a b ≤ DISTANCE_LIMIT };
 }
 
-/// A metric over places in the plane, in which a distance is at least a function of the difference in x.
+/// A metric over points in the plane, in which a distance is at least a function of the difference in x.
 pub trait Planar: Metric {
-    /// The place of a city, in units of the metric's own.
+    /// The coordinates of a city, in the units of the metric.
     ghost place_of: { Self → ℕ → Point };
 
-    /// The least distance at a difference in x.
+    /// A lower bound of the distance, given the difference in x.
     ghost floor: { Self → ℕ → ℕ };
 
-    /// The place of a city, in units of the metric's own.
+    /// The coordinates of a city, in the units of the metric.
     fn place(&self, c: u32) -> Point
         requires { IsCity (Self.size_of self.now) c }
         ensures { result ≡ place_of self.now c };
 
-    /// No two cities whose places differ by this in x are nearer than this.
+    /// A lower bound of the distance of cities that differ by `dx` in x.
     fn floor_x(&self, dx: u64) -> i64
         requires { dx ≤ reach }
         ensures { result ≡ pos (floor self.now dx) };
@@ -71,7 +71,7 @@ pub trait Planar: Metric {
         → floor m (unsigned_abs ((place_of m a).x -ℤ (place_of m b).x)) ≤ Self.distance m a b };
 }
 
-/// A metric in the plane in which a distance is at least the same function of the difference in y.
+/// A planar metric in which a distance is at least the same function of the difference in y.
 pub trait BothAxes: Planar {
     ghost tall: { (m : Self) (a b : ℕ)
         → unsigned_abs ((Self.place_of m a).y -ℤ (Self.place_of m b).y) ≤ reach };

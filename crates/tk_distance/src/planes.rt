@@ -10,8 +10,8 @@ use crate::exact::whole::{is_whole_nearer, whole_between};
 use crate::metric::{BothAxes, Metric, Planar};
 use tk_problem::{Places, PlaneKind, Point, Points};
 
-/// The distances of a plane type among the places of a list, whose cities are numbered from 1 in its order.
-/// They are those of exact arithmetic (G. Reinelt, "TSPLIB 95", section 2, "The distance functions").
+/// The distances of a plane type among the points of a list, whose cities are numbered from 1 in its order. They are
+/// computed in exact arithmetic (G. Reinelt, "TSPLIB 95", section 2, "The distance functions").
 #[derive(Clone, Copy)]
 pub struct Planes<'a> {
     pub kind: PlaneKind,
@@ -26,7 +26,7 @@ impl<'a> Planes<'a> {
     ghost use Rattle.tk_problem.specs.declared.weights.PlaneKind.TheVariants.{Euc2d};
     ghost use Rattle.tk_distance.specs.PlaneOf.{AreWhole};
 
-    /// The distances among at most 100,000 places.
+    /// The distances among at most 100,000 points.
     pub fn new(kind: PlaneKind, points: &'a Points) -> Planes<'a>
         requires few { length points.now ≤ CITY_LIMIT }
         ensures kind { result.kind ≡ kind }
@@ -38,8 +38,8 @@ impl<'a> Planes<'a> {
         }
     }
 
-    /// The same distances without a look at the kind and at the form of the coordinates, if they are those of EUC_2D
-    /// among whole numbers of a unit.
+    /// The same distances as an [`Euclid`], which need not dispatch on the type and the representation; `None` unless
+    /// they are EUC_2D and all coordinates are stored as multiples of a unit.
     pub fn euclid(&self) -> Option<Euclid<'a>>
         ensures some { IfSome result (λ e. (self.now.kind ≡ Euc2d) × (self.now.places ≡ Whole e.unit e.places)) }
         ensures none { result ≡ None → self.now.kind ≡ Euc2d → AreWhole self.now.places → ⊥ }
@@ -104,7 +104,7 @@ impl Metric for Planes<'_> {
     }
 }
 
-/// A number that is above the same distances as a limit.
+/// A bound that is greater than the same distances as a limit, from 0 to 4·10^9 + 1.
 #[inline]
 pub fn bound_of(limit: i64) -> u64
     ensures value { (d : ℕ) → d ≤ DISTANCE_LIMIT → ((d < result) ↔ (pos d <ℤ limit)) }

@@ -6,7 +6,7 @@ ghost use Rattle.tk_distance.specs.Cities.{IsCity};
 use crate::metric::Metric;
 use std::alloc::AllocError;
 
-/// The distances among the cities of a list, numbered from 1 in its order. A city may stand in it more than once.
+/// The distances among the cities of a list, numbered from 1 in its order. A city can occur in it more than once.
 pub struct Sub<'a, M: Metric> {
     pub metric: &'a M,
     pub cities: &'a [u32],

@@ -17,7 +17,7 @@ impl<'a> Table<'a> {
     ghost use Rattle.tk_distance.specs.Weights.{problem_distance};
     ghost use Rattle.tk_distance.specs.Tables.{table_size, table_distance};
 
-    /// The distances that a problem gives.
+    /// The distances of a problem.
     pub fn of(problem: &'a Problem) -> Table<'a>
         ensures size { table_size result ≡ problem.now.n }
         ensures distances { (a b : ℕ) → table_distance result a b ≡ problem_distance problem.now.weights a b }

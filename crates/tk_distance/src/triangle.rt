@@ -4,7 +4,7 @@ ghost use Rattle.tk_problem.specs.declared.limits.TheConstants.{DISTANCE_LIMIT, 
 
 use crate::metric::Metric;
 
-/// The explicit weights among `n` cities: the lower triangle row by row without its diagonal.
+/// The explicit weights among `n` cities: the lower triangle, row by row, without its diagonal.
 #[derive(Clone, Copy)]
 pub struct Triangle<'a> {
     pub n: u32,

@@ -1,11 +1,11 @@
-//! Places with x and y exchanged.
+//! Metrics with x and y swapped.
 ghost use Rattle.tk_problem.specs.declared.point.Point.{Point};
 ghost use Rattle.tk_distance.specs.Turned.{turned};
 
 use crate::metric::{BothAxes, Metric, Planar};
 use tk_problem::Point;
 
-/// The same metric with x and y of each place exchanged: a sweep in its order goes by y.
+/// A metric with x and y swapped, so that a sweep runs along y.
 #[derive(Drop)]
 pub struct Turned<'a, P: BothAxes>(pub &'a P);
 

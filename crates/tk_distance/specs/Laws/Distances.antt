@@ -1,4 +1,4 @@
--- The distance function gives the number that the definition describes, and no other number is it.
+-- The distance function returns the number that the definition describes, and no other number satisfies the definition.
 use Rattle.std.proofs.Common.{◌≡◌, ℕ, zero, suc, ◌+◌, ◌-◌, ◌*◌, ◌≤◌, sym, ap, add_comm, inl, inr, arith, max}
 use Rattle.std.proofs.lemmas.Bool.{leb-true, le-leb, cases_lt}
 use Rattle.std.specs.Bool.{Decides}
@@ -94,7 +94,7 @@ pub distance_at-rises : (kind : PlaneKind) (dx dy ex ey : ℕ) → dx ≤ ex →
 distance_at-rises kind dx dy ex ey x y =
     rises kind dx dy ex ey _ _ x y (distance_at-is kind dx dy) (distance_at-is kind ex ey)
 
--- x and y may be exchanged
+-- x and y can be swapped
 pub distance_at-swap : (kind : PlaneKind) (dx dy : ℕ) → distance_at kind dx dy ≡ distance_at kind dy dx
 unfolding distance_at
 distance_at-swap Euc2d dx dy = ap rounded_root (add_comm (dx * dx) (dy * dy))
@@ -110,7 +110,7 @@ no_root = record {
       absurd (omega (arith, more, h));
 }
 
--- the distance is 0 where nothing differs
+-- the distance is 0 if no coordinate differs
 nothing : (kind : PlaneKind) → IsDistance kind 0 0 0
 nothing Euc2d = no_root
 nothing Ceil2d = record { holds = omega arith; least = λ e h. omega arith }
@@ -120,7 +120,7 @@ nothing _ = record { holds = λ h. absurd (omega arith); greatest = λ e one h. 
 pub distance_at-nothing : (kind : PlaneKind) → distance_at kind 0 0 ≡ 0
 distance_at-nothing kind = sym (distance-unique kind 0 0 0 (nothing kind))
 
--- ---- no distance is over 4·10^9
+-- ---- no distance is greater than 4·10^9
 
 square_sum-far : (dx dy : ℕ) → dx ≤ reach → dy ≤ reach →
     square_sum dx dy ≤ 8000000000000000000000000000000000000

@@ -29,7 +29,7 @@ gap-limit : (x y : ℤ) → unsigned_abs x ≤ greatest_coordinate → unsigned_
     gap x y ≤ reach
 gap-limit x y a b = omega (arith, ints)
 
--- whole numbers of a unit, in units of 10^-9
+-- the difference of whole numbers of a unit, in units of 10^-9
 pub gap-in : (unit : Unit) (x y : ℤ) → gap (x *ℤ pos (step_of unit)) (y *ℤ pos (step_of unit)) ≡ gap x y * step_of unit
 gap-in One x y = omega (arith, ints)
 gap-in _ x y = omega (arith, ints)
@@ -66,7 +66,7 @@ distance_of-limit : (kind : PlaneKind) (p q : Point) → IsNearOrigin p → IsNe
 distance_of-limit kind p q a b =
     distance_at-limit kind (gap p.x q.x) (gap p.y q.y) (gap-limit p.x q.x a.x b.x) (gap-limit p.y q.y a.y b.y)
 
--- places in whole numbers of a unit, by how far these are apart
+-- the distance of points in whole numbers of a unit, given the differences of their coordinates
 pub whole_places : (kind : PlaneKind) (unit : Unit) (p q : WholePoint) (dx dy d : ℕ) → dx ≡ gap p.x q.x
     → dy ≡ gap p.y q.y
     → IsDistance kind (dx * step_of unit) (dy * step_of unit) d →
@@ -92,7 +92,7 @@ IsDistanceOf-limit kind p q d a b is =
 pub distance_of-unique : (kind : PlaneKind) (p q : Point) (d : ℕ) → IsDistanceOf kind p q d → d ≡ distance_of kind p q
 distance_of-unique kind p q d is = distance-unique kind (gap p.x q.x) (gap p.y q.y) d is
 
--- ---- the distance at a difference in x alone
+-- ---- the distance at a difference in x only
 
 pub floor-rises : (kind : PlaneKind) (s t : ℕ) → s ≤ t → distance_at kind s 0 ≤ distance_at kind t 0
 floor-rises kind s t below = distance_at-rises kind s 0 t 0 below (omega arith)
@@ -100,7 +100,7 @@ floor-rises kind s t below = distance_at-rises kind s 0 t 0 below (omega arith)
 pub floor-bounds : (kind : PlaneKind) (p q : Point) → distance_at kind (gap p.x q.x) 0 ≤ distance_of kind p q
 floor-bounds kind p q = distance_at-rises kind (gap p.x q.x) 0 (gap p.x q.x) (gap p.y q.y) (omega arith) (omega arith)
 
--- a difference in y alone makes the same distance as one in x alone
+-- a difference in y gives the same lower bound as one in x
 pub floor-bounds_y : (kind : PlaneKind) (p q : Point) → distance_at kind (gap p.y q.y) 0 ≤ distance_of kind p q
 floor-bounds_y kind p q =
     rw (distance_at-swap kind (gap p.x q.x) (gap p.y q.y))

@@ -16,7 +16,7 @@ const SCALE: u64 = tk_problem::SCALE as u64;
 
 const HALF: u64 = SCALE / 2;
 
-/// The distance of two places.
+/// The distance of two points.
 #[inline]
 pub fn fine_between(kind: PlaneKind, p: Point, q: Point) -> u64
     requires p_near { IsNearOrigin p }
@@ -30,7 +30,7 @@ pub fn fine_between(kind: PlaneKind, p: Point, q: Point) -> u64
     fine_distance(kind, p.x.abs_diff(q.x), p.y.abs_diff(q.y))
 }
 
-/// Whether the distance of two places is below a bound.
+/// Whether the distance of two points is below a bound.
 #[inline]
 pub fn is_fine_nearer(kind: PlaneKind, p: Point, q: Point, bound: u64) -> bool
     requires p_near { IsNearOrigin p }
@@ -56,7 +56,7 @@ fn is_root_below(square: u128, bound: u64) -> bool
 
 /// The square of the distance in the plane.
 ///
-/// One difference is turned round: of two alike LLVM makes a vector, only to take it apart for the products.
+/// One difference is reversed: of two in the same form, LLVM makes a vector, only to take it apart for the products.
 #[inline]
 fn square_between(p: Point, q: Point) -> u128
     requires p_near { IsNearOrigin p }
@@ -78,7 +78,7 @@ fn squared(difference: i64) -> u128
     (wide * wide) as u128
 }
 
-/// The distance at these differences of coordinates.
+/// The distance of points whose coordinates differ by `dx` and `dy`.
 pub fn fine_distance(kind: PlaneKind, dx: u64, dy: u64) -> u64
     requires x_near { dx ≤ reach }
     requires y_near { dy ≤ reach }
@@ -93,7 +93,7 @@ pub fn fine_distance(kind: PlaneKind, dx: u64, dy: u64) -> u64
     }
 }
 
-/// The distance at a difference in x alone.
+/// The distance of points that differ by `dx` in x and have the same y.
 #[inline]
 pub fn floor_distance(kind: PlaneKind, dx: u64) -> u64
     requires { dx ≤ reach }
@@ -145,7 +145,7 @@ fn nearest(square: u128) -> u64
     }
 }
 
-/// The root rounded to the nearest, by search.
+/// The root of a square, rounded to the nearest, by an integer square root.
 #[cold]
 #[inline(never)]
 fn nearest_searched(square: u128) -> u64
@@ -156,7 +156,7 @@ fn nearest_searched(square: u128) -> u64
     (root / HALF + 1) / 2
 }
 
-/// The least number of units that covers a part of a square; `factor` is for the guess.
+/// The root of `square / parts`, converted to ones and rounded up; `factor` is for the estimate.
 #[inline]
 fn least(square: u128, parts: u64, factor: u64) -> u64
     requires near { square ≤ 2 * (reach * reach) }
@@ -172,7 +172,7 @@ fn least(square: u128, parts: u64, factor: u64) -> u64
     }
 }
 
-/// The least number of units that covers a part of a square, which is mostly the one after the guess.
+/// The root of `square / parts` in ones, rounded up, which is usually the number after the estimate.
 #[cold]
 #[inline(never)]
 fn least_beside(square: u128, parts: u64, guess: u64) -> u64
@@ -189,7 +189,7 @@ fn least_beside(square: u128, parts: u64, guess: u64) -> u64
     }
 }
 
-/// Whether a number of units covers a part of a square.
+/// Whether a number of ones is at least the root of `square / parts`.
 #[inline]
 fn covers(units: u64, parts: u64, square: u128) -> bool
     requires small { units ≤ 2 ^ 32 }
@@ -200,7 +200,7 @@ fn covers(units: u64, parts: u64, square: u128) -> bool
     square <= parts as u128 * (length * length)
 }
 
-/// The least number of units, by the root.
+/// The root of `square / parts` in ones, rounded up, by an integer square root.
 #[cold]
 #[inline(never)]
 fn least_searched(square: u128, parts: u64) -> u64

@@ -1,11 +1,11 @@
-//! Guesses of roots, by integers alone. No contract says how near one is: whoever uses it confirms it.
+//! Estimates of roots, in integer arithmetic. No contract says how close an estimate is: its callers check it.
 ghost use Rattle.std.specs.Prelude.{◌<◌, ◌^◌};
 
 use crate::exact::lines::LINES;
 
-/// The root of `m` in units of 1/512, nearly. One of the two highest bits of `m` is set.
+/// Approximately the root of `m`, in units of 1/512. One of the two highest bits of `m` is set.
 ///
-/// A line gives the root's reciprocal to 20 bits, and a step of Newton's method from there the root to 40.
+/// A line gives the reciprocal of the root to 20 bits, and then a step of Newton's method gives the root to 40 bits.
 #[inline]
 fn scaled_root(m: u64) -> u64 {
     let top = m >> 32;
@@ -17,7 +17,7 @@ fn scaled_root(m: u64) -> u64 {
     (root << 9).wrapping_add(more.cast_unsigned())
 }
 
-/// Nearly 64 times the root of `n`.
+/// Approximately 64 times the root of `n`.
 #[inline]
 pub fn near_root(n: u64) -> u64 {
     let shift = (n | 1).leading_zeros() & 62;
@@ -40,13 +40,13 @@ pub fn rounded_up(parts: u64) -> u64
     (parts.wrapping_add(63) >> 6) & 0xffff_ffff
 }
 
-/// 2^93 over the length of a unit, for lengths in units of 10^-9.
+/// 2^93 divided by the length of a unit, for lengths in units of 10^-9.
 pub const PER_UNIT: u64 = 9903520314283042199;
 
-/// 2^93 over the length of a unit and the root of 10.
+/// 2^93 divided by the length of a unit and by the root of 10.
 pub const PER_UNIT_AND_ROOT_OF_TEN: u64 = 3131768104688099139;
 
-/// Nearly 64 times the root of `square` times `factor` over 2^93.
+/// Approximately 64 times the root of `square`, times `factor`, divided by 2^93.
 #[inline]
 pub fn near_scaled_root(square: u128, factor: u64) -> u64 {
     let (top, shift) = top_of(square);
@@ -54,7 +54,7 @@ pub fn near_scaled_root(square: u128, factor: u64) -> u64 {
     length.wrapping_shr(shift / 2)
 }
 
-/// The highest bits of a square but for an even number of leading zeros, and that number.
+/// The highest bits of a square, after an even number of leading zeros, and that number.
 #[inline]
 fn top_of(square: u128) -> (u64, u32) {
     let high = (square >> 64) as u64;
@@ -68,7 +68,7 @@ fn top_of(square: u128) -> (u64, u32) {
     }
 }
 
-/// Nearly the root of `x`: a step of Newton's method from its highest bits.
+/// Approximately the root of `x`: a step of Newton's method from the root of its highest bits.
 #[inline]
 pub fn near_wide_root(x: u128) -> u64 {
     let (top, shift) = top_of(x);

@@ -1,7 +1,7 @@
-//! The table for guesses of roots.
+//! The table for estimates of roots.
 
-/// Lines near 2^31 over the root of `x`, for `x` from `k / 256` to `(k + 1) / 256`: the value at 0, and how far a line
-/// falls in 1/256. The first 256 rows stand for numbers below 1, which are not asked for.
+/// Lines that approximate 2^31 divided by the root of `x`, for `x` from `k / 256` to `(k + 1) / 256`: the value at 0,
+/// and the decrease per 1/256. The first 256 rows are for numbers below 1, which are not looked up.
 #[rattlefmt::skip]
 pub static LINES: [(u32, u32); 1024] = [
     (0, 0), (0, 0), (0, 0), (0, 0), (0, 0),

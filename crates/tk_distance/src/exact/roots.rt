@@ -4,7 +4,7 @@ ghost use Rattle.tk_distance.specs.Roots.{IsRoot, IsRootUp};
 
 use crate::exact::guess::near_wide_root;
 
-/// The greatest number whose square is at most `x`.
+/// The largest integer whose square is at most `x`.
 pub fn root(x: u128) -> u64
     ensures { IsRoot x result }
 {
@@ -29,7 +29,7 @@ fn searched(x: u128) -> u64
     x.isqrt() as u64
 }
 
-/// The least number whose square is at least `x`.
+/// The smallest integer whose square is at least `x`.
 pub fn root_up(x: u128) -> u128
     ensures { IsRootUp x result }
 {

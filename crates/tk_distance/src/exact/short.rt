@@ -1,12 +1,12 @@
-//! Guesses of short roots. No contract says how near one is: whoever uses it confirms it.
+//! Estimates of the roots of small numbers. No contract says how close an estimate is: its callers check it.
 ghost use Rattle.std.specs.Prelude.{◌<◌, ◌^◌};
 
 use crate::exact::lines::LINES;
 
-/// Below this the guess of a root is mostly the root itself, rounded to the nearest.
+/// Below this, the estimate of a root is usually the root itself, rounded to the nearest.
 pub const SHORT: u64 = 1 << 34;
 
-/// Nearly the root of `n`, to 20 bits: a line gives the root's reciprocal.
+/// Approximately the root of `n`, to 20 bits: a line gives the reciprocal of the root.
 #[inline]
 pub fn short_root(n: u64) -> u64
     ensures { result < 2 ^ 32 }

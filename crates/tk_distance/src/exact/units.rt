@@ -1,4 +1,4 @@
-//! Lengths and squares of whole numbers of a unit, brought to ones.
+//! Lengths and squares in whole numbers of a unit, converted to ones.
 ghost use Rattle.std.specs.Prelude.{◌≡◌, ◌≢◌, ℕ, ◌-◌, ◌*◌, ◌≤◌, ◌↔◌, min};
 ghost use Rattle.tk_distance.specs.Distance.{IsGreatest, PartsRoots, Reaches, RoundAlike, reach};
 ghost use Rattle.tk_problem.specs.Places.{scale};
@@ -7,7 +7,7 @@ ghost use Rattle.tk_problem.specs.declared.unit.Unit.TheVariants.{One};
 
 use tk_problem::Unit;
 
-/// The square in ones whose root, rounded to the nearest, is that of a square in a unit.
+/// A square in ones whose root, rounded to the nearest, equals that of a square in a unit.
 #[inline]
 pub fn rounding_square(unit: Unit, square: u64) -> u64
     requires { square ≤ 8000000000000000000 }
@@ -20,8 +20,8 @@ pub fn rounding_square(unit: Unit, square: u64) -> u64
     }
 }
 
-/// The square in ones whose root, rounded to the nearest, is that of a square in parts of 1. It is apart from that of
-/// whole numbers, which are asked for most and need no table of jumps.
+/// A square in ones whose root, rounded to the nearest, equals that of a square in a unit that is a part of 1. This is
+/// a function of its own because whole numbers are the most frequent and need no jump table.
 #[inline(never)]
 fn rounding_square_of_parts(unit: Unit, square: u64) -> u64
     requires { square ≤ 8000000000000000000 }
@@ -36,7 +36,7 @@ fn rounding_square_of_parts(unit: Unit, square: u64) -> u64
     }
 }
 
-/// A square in a unit: a square is less just where its root, rounded to the nearest, is below a bound.
+/// A bound for squares in a unit: a square is less exactly if its root, rounded to the nearest, is below `bound`.
 #[inline]
 pub fn square_at(unit: Unit, bound: u64) -> u64
     requires { bound ≤ 4000000001 }
@@ -48,7 +48,7 @@ pub fn square_at(unit: Unit, bound: u64) -> u64
     }
 }
 
-/// A square in a part of 1: a square is less just where its root, rounded to the nearest, is below a bound.
+/// Like `square_at`, but for a unit that is a part of 1.
 #[inline(never)]
 fn square_at_in_parts(unit: Unit, bound: u64) -> u64
     requires { bound ≤ 4000000001 }
@@ -57,7 +57,7 @@ fn square_at_in_parts(unit: Unit, bound: u64) -> u64
     square_of_half(bound, half_of(unit))
 }
 
-/// How many of a unit make 1/2, of one that is a part of 1.
+/// The number of units in 1/2, for a unit that is a part of 1.
 #[inline]
 fn half_of(unit: Unit) -> u64
     ensures half { unit ≢ One → 2 * result * step_of unit ≡ scale }
@@ -71,7 +71,7 @@ fn half_of(unit: Unit) -> u64
     }
 }
 
-/// The square of a number less 1/2, in units of which `half` make 1/2; 9·10^18 stands for all that are greater.
+/// The square of `number - 1/2`, in units of which `half` make 1/2, but at most 9·10^18.
 #[inline]
 fn square_of_half(number: u64, half: u64) -> u64
     requires number { number ≤ 4000000001 }
@@ -82,7 +82,7 @@ fn square_of_half(number: u64, half: u64) -> u64
     root * root
 }
 
-/// The least square in ones that covers a square in a unit.
+/// The smallest square in ones that is at least a square in a unit.
 #[inline]
 pub fn covering_square(unit: Unit, square: u64) -> u64
     requires { square ≤ 8000000000000000000 }
@@ -97,7 +97,7 @@ pub fn covering_square(unit: Unit, square: u64) -> u64
     }
 }
 
-/// A length in a unit, rounded to the nearest.
+/// A length in a unit, converted to ones and rounded to the nearest.
 #[inline]
 pub fn rounded_length(unit: Unit, length: u64) -> u64
     requires { length ≤ reach }

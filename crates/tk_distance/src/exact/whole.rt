@@ -12,7 +12,7 @@ use crate::exact::short::{SHORT, short_root};
 use crate::exact::units::{covering_square, rounded_length, rounding_square, square_at};
 use tk_problem::{PlaneKind, Unit, WholePoint};
 
-/// The distance of two places in whole numbers of a unit.
+/// The distance of two points in whole numbers of a unit.
 #[inline]
 pub fn whole_between(kind: PlaneKind, unit: Unit, p: WholePoint, q: WholePoint) -> u64
     ensures distance { IsDistanceOf kind (place_in unit p) (place_in unit q) result }
@@ -24,7 +24,7 @@ pub fn whole_between(kind: PlaneKind, unit: Unit, p: WholePoint, q: WholePoint) 
     rarer_between(kind, unit, p, q)
 }
 
-/// Whether the distance of two places in whole numbers of a unit is below a bound.
+/// Whether the distance of two points in whole numbers of a unit is below a bound.
 #[inline]
 pub fn is_whole_nearer(
     kind: PlaneKind,
@@ -51,7 +51,7 @@ fn square_between(p: WholePoint, q: WholePoint) -> u64
     square_of(apart(p.x, q.x), apart(p.y, q.y))
 }
 
-/// How far two coordinates are apart.
+/// The absolute difference of two coordinates.
 #[inline]
 fn apart(a: i32, b: i32) -> u64
     requires a { unsigned_abs a ≤ COORDINATE_LIMIT }
@@ -62,7 +62,7 @@ fn apart(a: i32, b: i32) -> u64
     (a as i64 - b as i64).unsigned_abs()
 }
 
-/// The distance of a rarer kind.
+/// The distance of any type. It is kept apart because types other than EUC_2D are rare.
 fn rarer_between(kind: PlaneKind, unit: Unit, p: WholePoint, q: WholePoint) -> u64
     ensures distance { IsDistanceOf kind (place_in unit p) (place_in unit q) result }
     ensures limit { result ≤ DISTANCE_LIMIT }
@@ -70,7 +70,7 @@ fn rarer_between(kind: PlaneKind, unit: Unit, p: WholePoint, q: WholePoint) -> u
     whole_distance(kind, unit, apart(p.x, q.x), apart(p.y, q.y))
 }
 
-/// The distance at these differences of coordinates, in whole numbers of a unit.
+/// The distance of points whose coordinates differ by `dx` and `dy` units.
 #[inline]
 fn whole_distance(kind: PlaneKind, unit: Unit, dx: u64, dy: u64) -> u64
     requires x_near { dx ≤ 2 * COORDINATE_LIMIT }
@@ -123,7 +123,7 @@ fn is_rounded_root(square: u64, guess: u64) -> bool
     middle < square + guess.max(1) && square <= middle + guess
 }
 
-/// The root rounded to the nearest, mostly of a great square.
+/// The root of a square, rounded to the nearest: of a large square, or of a small one whose estimate is wrong.
 #[inline]
 fn nearest_of_far(square: u64) -> u64
     requires { square ≤ 8000000000000000000 }
@@ -137,7 +137,7 @@ fn nearest_of_far(square: u64) -> u64
     }
 }
 
-/// The root rounded to the nearest, by search.
+/// The root of a square, rounded to the nearest, by an integer square root.
 #[cold]
 #[inline(never)]
 fn nearest_searched(square: u64) -> u64
@@ -167,7 +167,7 @@ fn ceiling(square: u64) -> u64
     }
 }
 
-/// The root rounded up, by search.
+/// The root of a square, rounded up, by an integer square root.
 #[cold]
 #[inline(never)]
 fn ceiling_searched(square: u64) -> u64
