@@ -1,4 +1,4 @@
--- What a search keeps.
+-- The candidates that a search keeps.
 use Rattle.std.specs.Prelude.{ℕ, ◌≤◌, ◌-◌, List, [], ◌∷◌, length, slice_index_or}
 use Rattle.std.proofs.Common.{arith}
 use Rattle.std.proofs.Math.Bridge.{le_prop}
@@ -8,7 +8,7 @@ use Rattle.tk_near.specs.declared.candidates.Candidate.{Candidate}
 use Rattle.tk_near.specs.Keeping.{Climbing, open_place, rank}
 use Rattle.tk_near.specs.declared.plane.keeper.One.{One}
 
--- the last of the kept
+-- the last of the candidates kept
 abbrev pub last_of : List Candidate → Candidate
 last_of kept = slice_index_or kept (length kept - 1) open_place
 

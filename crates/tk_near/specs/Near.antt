@@ -1,9 +1,9 @@
 -- Near lists of a distance table over the cities 1 to n (candidates, neighbour lists: J. L. Bentley, 1992).
 --     IsCloser dist c a b      seen from c, a comes before b in the order of (distance, number)
---     IsFirst dist c P b      b is the first of the cities with P, seen from c
---     IsNear dist n k c cities      the first k of the cities other than c
+--     IsFirst dist c P b      b is the first of the cities that satisfy P, seen from c
+--     IsNear dist n k c cities      the nearest k of the cities other than c
 --     AreNearest dist v      each list of v is that of its city
---     AreNearLists dist n k v      v has just these lists of k of each of n cities
+--     AreNearLists dist n k v      v contains exactly the near lists of n cities, with k cities each
 use Rattle.std.specs.Prelude.{◌≡◌, ◌≢◌, ℕ, ◌-◌, ◌*◌, ◌<◌, ◌≤◌, ◌⊎◌, List, length, slice_index, take, drop, All}
 use Rattle.tk_problem.specs.declared.limits.TheConstants.{CANDIDATE_LIMIT, CITY_LIMIT}
 use Rattle.tk_distance.specs.Cities.{IsCity}
@@ -12,7 +12,7 @@ use Rattle.tk_distance.specs.Cities.{IsCity}
 abbrev pub IsCloser : (ℕ → ℕ → ℕ) → ℕ → ℕ → ℕ → Type 0
 IsCloser dist c a b = (dist c a < dist c b) ⊎ ((dist c a ≡ dist c b) × (a < b))
 
--- b is the first of the cities with P, seen from c
+-- b is the first of the cities that satisfy P, seen from c
 pub record IsFirst (dist : ℕ → ℕ → ℕ) (c : ℕ) (P : ℕ → Type 0) (b : ℕ) : Type 0 where
   pub member : P b
   pub before : (a : ℕ) → P a → a ≢ b → IsCloser dist c b a
@@ -21,18 +21,18 @@ pub record IsFirst (dist : ℕ → ℕ → ℕ) (c : ℕ) (P : ℕ → Type 0) (
 abbrev pub IsNew : List ℕ → ℕ → ℕ → Type 0
 IsNew cities j b = (i : ℕ) → i < j → slice_index cities i ≢ b
 
--- the first k of the cities other than c: each is the first of those that do not stand before it
+-- the nearest k of the cities other than c: each is the first of those that do not occur before it
 pub record IsNear (dist : ℕ → ℕ → ℕ) (n k c : ℕ) (cities : List ℕ) : Type 0 where
   pub count : length cities ≡ k
   pub each : (j : ℕ) → j < k → IsFirst dist c (λ b. IsCity n b × (b ≢ c) × IsNew cities j b) (slice_index cities j)
 
--- what holds near lists: `width` entries for each of the cities 1 to `size`, one list after another
+-- near lists: `width` entries for each of the cities 1 to `size`, one list after another
 pub record NearLists : Type 0 where
   pub size : ℕ
   pub width : ℕ
   pub entries : List ℕ
 
--- the c-th of the lists of k entries that stand one after another
+-- the c-th of the lists, which have k entries each and follow one another
 abbrev pub block : ℕ → List ℕ → ℕ → List ℕ
 block k entries c = take k (drop ((c - 1) * k) entries)
 
@@ -40,7 +40,7 @@ block k entries c = take k (drop ((c - 1) * k) entries)
 abbrev pub near_of : NearLists → ℕ → List ℕ
 near_of v c = block v.width v.entries c
 
--- b is one of the cities 1 to n, but c
+-- b is one of the cities 1 to n, other than c
 abbrev pub IsOther : ℕ → ℕ → ℕ → Type 0
 IsOther n c b = IsCity n b × (b ≢ c)
 
@@ -56,7 +56,7 @@ pub record AreNearest (dist : ℕ → ℕ → ℕ) (v : NearLists) : Type 0 wher
   pub count : length v.entries ≡ v.size * v.width
   pub each : (c : ℕ) → IsCity v.size c → IsNear dist v.size v.width c (near_of v c)
 
--- the near lists of n cities, k others for each
+-- the near lists of n cities, with k other cities each
 pub record AreNearLists (dist : ℕ → ℕ → ℕ) (n k : ℕ) (v : NearLists) : Type 0 where
   pub size : v.size ≡ n
   pub width : v.width ≡ k

@@ -1,4 +1,4 @@
-//! The nearest candidates of a city, kept in order.
+//! The nearest candidates of a city, in order.
 ghost use Rattle.std.specs.Prelude.{◌≡◌, ◌≤◌, ◌<◌, ◌-◌, ◌*◌, ◌↔◌, IsTrue, length};
 ghost use Rattle.tk_distance.specs.Cities.{IsCity};
 ghost use Rattle.tk_near.specs.Keeping.{AreOpenFrom, candidate, rank, Climbing, with_candidate, overwritten};
@@ -6,21 +6,21 @@ ghost use Rattle.tk_near.specs.Keeping.{cities_kept};
 
 use tk_distance::Metric;
 
-/// A city with its distance from the one that looks.
+/// A city, with its distance from the city whose candidate it is.
 #[derive(Clone, Copy, Drop)]
 pub struct Candidate {
     pub distance: u32,
     pub city: u32,
 }
 
-/// A place that no city has taken: it comes after each city.
+/// An empty slot, which compares greater than every candidate.
 pub const OPEN: Candidate = Candidate {
     distance: u32::MAX,
     city: u32::MAX,
 };
 
 impl Candidate {
-    /// Distance and number as one number.
+    /// Distance and number as one sort key.
     #[inline(always)]
     fn key(self) -> u64
         ensures { result ≡ rank self }
@@ -28,7 +28,7 @@ impl Candidate {
         self.distance as u64 * 4_294_967_296 + self.city as u64
     }
 
-    /// Whether it comes first by (distance, number).
+    /// Whether this candidate comes before another in the order of (distance, number).
     #[inline(always)]
     pub fn is_before(self, other: Candidate) -> bool
         ensures { IsTrue result ↔ (rank self < rank other) }
@@ -37,7 +37,7 @@ impl Candidate {
     }
 }
 
-/// The city b as seen from c.
+/// City b as a candidate of city c.
 #[inline]
 pub fn measure<M: Metric>(m: &M, c: u32, b: u32) -> Candidate
     requires from { IsCity (M.size_of m.now) c }
@@ -50,7 +50,7 @@ pub fn measure<M: Metric>(m: &M, c: u32, b: u32) -> Candidate
     }
 }
 
-/// Whether a city, seen from another, comes before the last of the kept.
+/// Whether city `there`, as a candidate of city `here`, comes before the last candidate kept.
 #[inline(always)]
 pub fn comes_before<M: Metric>(m: &M, here: u32, there: u32, last: Candidate) -> bool
     requires here { IsCity (M.size_of m.now) here }
@@ -61,8 +61,8 @@ pub fn comes_before<M: Metric>(m: &M, here: u32, there: u32, last: Candidate) ->
     m.is_nearer(here, there, limit)
 }
 
-/// Puts a candidate in its place and lets the last go, or lets it go itself where it comes last. The places from
-/// `filled` on are open: they stay where they are.
+/// Inserts a candidate in order and drops the last one, which may be the candidate itself. Slots from `filled` on are
+/// empty and stay so.
 pub fn keep_among(kept: &mut [Candidate], filled: &mut usize, x: Candidate)
     requires room { 1 ≤ length kept.old }
     requires climbing { Climbing rank kept.old }
@@ -84,7 +84,7 @@ pub fn keep_among(kept: &mut [Candidate], filled: &mut usize, x: Candidate)
     *filled = end + 1;
 }
 
-/// The same where it is not known which places are open.
+/// Like `keep_among`, but without knowing which slots are empty.
 pub fn keep(kept: &mut [Candidate], x: Candidate)
     requires room { 1 ≤ length kept.old }
     requires climbing { Climbing rank kept.old }
@@ -94,7 +94,7 @@ pub fn keep(kept: &mut [Candidate], x: Candidate)
     keep_among(kept, &mut filled, x);
 }
 
-/// Writes the cities of the kept as the list of city c.
+/// Writes the cities of these candidates as the near list of city c.
 pub fn write_cities(entries: &mut [u32], c: u32, kept: &[Candidate])
     requires city { 1 ≤ c }
     requires room { c * length kept.now ≤ length entries.old }

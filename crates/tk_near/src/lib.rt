@@ -1,5 +1,5 @@
-//! Near lists by scan, by sweep and by k-d tree, and the cities that are left of such a tree when some have been taken
-//! out.
+//! Near lists by scan, by sweep and by k-d tree, and the unvisited cities of such a tree, from which visited cities are
+//! removed.
 #![tactic(auto)]
 
 mod candidates;

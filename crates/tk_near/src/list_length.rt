@@ -1,10 +1,10 @@
-//! How many cities near lists are asked to have.
+//! The length of near lists.
 ghost use Rattle.std.specs.Prelude.{◌≡◌, IfSome, IsSome};
 ghost use Rattle.tk_near.specs.ListLengths.{IsListLength};
 
 use tk_problem::CANDIDATE_LIMIT;
 
-/// How many cities a near list is to have: 1 to 100.
+/// The length of a near list, from 1 to 100 cities.
 #[derive(Clone, Copy)]
 pub struct ListLength {
     pub cities: u32,
@@ -12,7 +12,7 @@ pub struct ListLength {
 }
 
 impl ListLength {
-    /// So many cities, if a list can have them.
+    /// The list length, or `None` unless it is from 1 to 100.
     pub fn of(cities: u32) -> Option<ListLength>
         ensures some { IfSome result (λ length. length.cities ≡ cities) }
         ensures all { IsListLength cities → IsSome result }

@@ -1,4 +1,4 @@
-//! Near lists: for each city the first others by (distance, number).
+//! Near lists: for each city, its nearest other cities, with ties broken by number.
 ghost use Rattle.std.specs.Prelude.{◌≡◌, ◌*◌, ◌≤◌, ◌<◌, IfOk, All, length, ⊤};
 ghost use Rattle.tk_problem.specs.declared.limits.TheConstants.{CANDIDATE_LIMIT, CITY_LIMIT};
 ghost use Rattle.tk_distance.specs.Cities.{IsCity};
@@ -10,7 +10,7 @@ use std::alloc::{AllocError, Global};
 use std::marker::Model;
 use tk_distance::Metric;
 
-/// The near lists of the cities 1 to `size`, `width` entries for each: the list of a city has its nearest others.
+/// The near lists of the cities 1 to `size`, with `width` entries for each city.
 #[derive(Drop)]
 pub struct Near {
     size: u32,
@@ -29,7 +29,7 @@ impl Model for Near {
 }
 
 impl Near {
-    /// The lists once those of all cities are filled.
+    /// The near lists, from the filled lists of all cities.
     pub fn from_filled<M: Metric>(m: &M, k: u32, entries: Vec<u32>) -> Near
         requires limit { k ≤ CANDIDATE_LIMIT }
         requires filled { AreFilled (M.distance m.now) (M.size_of m.now) k (λ _. ⊤) entries.items }
@@ -42,7 +42,7 @@ impl Near {
         }
     }
 
-    /// How many cities there are.
+    /// The number of cities.
     pub fn size(&self) -> u32
         ensures value { result ≡ self.now.size }
         ensures limit { result ≤ CITY_LIMIT }
@@ -50,7 +50,7 @@ impl Near {
         self.size
     }
 
-    /// How many entries each list has.
+    /// The number of entries of each list.
     pub fn width(&self) -> u32
         ensures value { result ≡ self.now.width }
         ensures stored { length self.now.entries ≡ self.now.size * self.now.width }
@@ -59,7 +59,7 @@ impl Near {
         self.width
     }
 
-    /// The near lists one after another, those of city 1 first: `size` lists of `width` cities each.
+    /// The near lists, one after another, beginning with city 1: `size` lists of `width` cities each.
     pub fn entries(&self) -> &[u32]
         ensures value { result.now ≡ self.now.entries }
         ensures count { length result.now ≡ self.now.size * self.now.width }
@@ -80,7 +80,7 @@ impl Near {
     }
 }
 
-/// The first of the cities other than c, as many as there is room for.
+/// Finds the nearest other cities of city c, as many as there is room for.
 fn scan_city<M: Metric>(m: &M, c: u32, kept: &mut [Candidate])
     requires city { IsCity (M.size_of m.now) c }
     requires low { 1 ≤ length kept.old }
@@ -96,10 +96,10 @@ fn scan_city<M: Metric>(m: &M, c: u32, kept: &mut [Candidate])
     }
 }
 
-/// Room for n lists of k cities.
+/// Allocates n lists of k cities.
 ///
 /// # Errors
-/// `AllocError` if there is no memory for them.
+/// `AllocError` if memory runs out.
 pub fn room_for<M: Metric>(alloc: Global, m: &M, k: u32) -> Result<Vec<u32>, AllocError>
     requires { k ≤ CANDIDATE_LIMIT }
     ensures { IfOk result (λ v. length v.items ≡ M.size_of m.now * k) }
@@ -121,10 +121,10 @@ fn fill_by_scan<M: Metric>(m: &M, kept: &mut [Candidate], entries: &mut [u32])
     }
 }
 
-/// The near lists by a scan of all cities for each.
+/// The near lists, by a scan of all cities for each city.
 ///
 /// # Errors
-/// `AllocError` if there is no memory for n lists of k cities.
+/// `AllocError` if memory runs out.
 pub fn near_scan<M: Metric>(alloc: Global, m: &M, k: u32) -> Result<Near, AllocError>
     requires low { 1 ≤ k }
     requires limit { k ≤ CANDIDATE_LIMIT }

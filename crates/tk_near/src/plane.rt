@@ -1,4 +1,4 @@
-//! Near lists in the plane: by a k-d tree and by a sweep, and the cities that are left of a tree.
+//! Near lists in the plane, by a k-d tree and by a sweep, and the unvisited cities of a tree.
 pub mod halve;
 pub mod keeper;
 pub mod left;

@@ -1,4 +1,4 @@
-//! The near lists of a table: by a k-d tree in the plane, else by a scan.
+//! The near lists of a table: by a k-d tree in the plane, otherwise by a scan.
 ghost use Rattle.std.specs.Prelude.{◌≤◌, ◌<◌, IfOk};
 ghost use Rattle.tk_problem.specs.declared.limits.TheConstants.{CANDIDATE_LIMIT};
 ghost use Rattle.tk_distance.specs.Tables.{table_size, table_distance};
@@ -9,10 +9,10 @@ use crate::plane::tree::near_tree;
 use std::alloc::{AllocError, Global};
 use tk_distance::Table;
 
-/// The near lists of a table's cities, k for each.
+/// The near lists of the cities of a table, with k cities each.
 ///
 /// # Errors
-/// `AllocError` where there is no memory for them.
+/// `AllocError` if memory runs out.
 pub fn near_lists(alloc: Global, table: &Table<'_>, k: u32) -> Result<Near, AllocError>
     requires low { 1 ≤ k }
     requires limit { k ≤ CANDIDATE_LIMIT }

@@ -1,18 +1,18 @@
-//! The half of some cities that comes first in x or in y, brought to the front.
+//! Brings the half of some cities that comes first in x or in y to the front.
 //!
-//! How well they are halved decides how long a search of a tree takes, and not what it finds. So the contracts only say
-//! that no city is lost.
+//! How evenly the cities are divided decides how long a search of a tree takes, but not what it finds. Therefore, the
+//! contracts state only that no city is lost.
 ghost use Rattle.std.specs.Prelude.{◌≤◌, IsPermutation, length};
 
 use crate::plane::placed::Placed;
 
-/// At most so many cities are put in order at once.
+/// Rows of at most this length are sorted.
 const FEW: usize = 12;
 
-/// From so many cities on, the one that parts them is chosen among nine.
+/// Rows of at least this length choose their pivot from nine cities.
 const MANY: usize = 64;
 
-/// Whether a city comes first in y, or in x, and by its number where that is equal.
+/// Whether a city comes before another in y, or in x, with ties broken by number.
 #[inline]
 fn comes_first(p: Placed, q: Placed, is_tall: bool) -> bool {
     let (a, b) = if is_tall {
@@ -23,7 +23,7 @@ fn comes_first(p: Placed, q: Placed, is_tall: bool) -> bool {
     (a < b) | ((a == b) & (p.city < q.city))
 }
 
-/// The middle one of three cities.
+/// The median of three cities.
 fn middle_of_three(a: Placed, b: Placed, c: Placed, is_tall: bool) -> Placed {
     let is_rising = comes_first(a, b, is_tall);
     if comes_first(b, c, is_tall) == is_rising {
@@ -35,7 +35,8 @@ fn middle_of_three(a: Placed, b: Placed, c: Placed, is_tall: bool) -> Placed {
     }
 }
 
-/// One of the cities, near the middle of them in most rows: the middle one of three, or of three such of a long row.
+/// A pivot, which is near the median in most rows: the median of three cities, or the median of three such medians in a
+/// long row.
 fn middle_of(row: &[Placed], is_tall: bool) -> Placed
     requires { 1 ≤ length row.now }
 {
@@ -50,7 +51,7 @@ fn middle_of(row: &[Placed], is_tall: bool) -> Placed
     middle_of_three(a, b, c, is_tall)
 }
 
-/// Brings the cities that come before a city to the front, and tells how many they are.
+/// Brings the cities that come before a city to the front, and returns their number.
 fn part(row: &mut [Placed], middle: Placed, is_tall: bool) -> usize
     ensures count { result ≤ length row.old }
     ensures moved { IsPermutation row.old row.new }
@@ -76,8 +77,8 @@ fn sort(row: &mut [Placed], is_tall: bool)
     }
 }
 
-/// Brings the first `count` of the cities to the front: a quickselect (C. A. R. Hoare, 1961), which sorts where its
-/// rounds end.
+/// Brings the first `count` of the cities to the front, by a quickselect (C. A. R. Hoare, 1961). A short row is sorted,
+/// and so is what remains after the last round.
 fn select(row: &mut [Placed], count: usize, is_tall: bool, rounds: u32)
     ensures { IsPermutation row.old row.new }
 {

@@ -1,4 +1,4 @@
-//! What a search of a tree keeps of the cities that it sees: the first of them by (distance, number).
+//! Collects the nearest of the cities that a tree search visits, with ties broken by number.
 ghost use Rattle.std.specs.Prelude.{◌≡◌, ◌≤◌, List, [], ◌∷◌, IfOk, length, replicate};
 ghost use Rattle.tk_near.specs.declared.candidates.Candidate.{Candidate};
 ghost use Rattle.tk_near.specs.Keeping.{AreOpenFrom, Climbing, open_place, rank, with_candidate};
@@ -7,16 +7,16 @@ ghost use Rattle.tk_near.specs.Kept.{Climbing-prop, last_of, one_climbing, one_r
 use crate::candidates::{Candidate, OPEN, keep_among};
 use std::alloc::{AllocError, Global};
 
-/// Keeps the first of the cities that a search sees, as many as there is room for.
+/// Collects the nearest of the cities that a search visits, up to its capacity.
 pub trait Keeper {
-    /// The kept, in order.
+    /// The candidates kept, in order.
     ghost kept_of: { Self → List Candidate };
 
-    /// The last of the kept: what comes after it does not enter.
+    /// The last of the candidates kept: a candidate that comes after it is not kept.
     fn last(&self) -> Candidate
         ensures { result ≡ last_of (kept_of self.now) };
 
-    /// Keeps a city that was seen at the end of these turns, unless it comes after the last of the kept.
+    /// Keeps a candidate that was found at the end of this path, unless it comes after the last one kept.
     fn keep(&mut self, x: Candidate, sides: u64)
         ensures { kept_of self.new ≡ with_candidate x (kept_of self.old) };
 
@@ -25,7 +25,7 @@ pub trait Keeper {
     ghost climbing: { (k : Self) → Climbing rank (kept_of k) };
 }
 
-/// Keeps a number of cities.
+/// Collects several cities.
 #[derive(Drop)]
 pub struct Many {
     kept: Vec<Candidate>,
@@ -36,10 +36,10 @@ pub struct Many {
 }
 
 impl Many {
-    /// Room for so many cities.
+    /// A collector with room for `width` cities.
     ///
     /// # Errors
-    /// `AllocError` if there is no memory for them.
+    /// `AllocError` if memory runs out.
     pub fn new(alloc: Global, width: usize) -> Result<Many, AllocError>
         requires { 1 ≤ width }
         ensures { IfOk result (λ many. many.kept.items ≡ replicate width open_place) }
@@ -48,7 +48,7 @@ impl Many {
         Ok(Many { kept, filled: 0 })
     }
 
-    /// Lets all cities go.
+    /// Removes all cities.
     pub fn clear(&mut self)
         ensures { self.new.kept.items ≡ replicate (length self.old.kept.items) open_place }
     {
@@ -56,7 +56,7 @@ impl Many {
         self.filled = 0;
     }
 
-    /// The kept, in order.
+    /// The candidates kept, in order.
     pub fn kept(&self) -> &[Candidate]
         ensures { result.now ≡ self.now.kept.items }
     {
@@ -82,7 +82,7 @@ impl Keeper for Many {
     }
 }
 
-/// Keeps one city, and the turns that lead to the part where it was seen.
+/// Collects one city, and the path to the leaf where it was found.
 #[derive(Clone, Copy)]
 pub struct One {
     pub best: Candidate,

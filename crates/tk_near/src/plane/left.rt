@@ -1,4 +1,4 @@
-//! Cities that are left: they are taken out of a tree one by one, and the first of the others is found there.
+//! Unvisited cities: visited ones are removed from a tree one by one, and the nearest of the others is found there.
 ghost use Rattle.std.specs.Prelude.{◌≡◌, ◌<◌, ◌++◌, All, length, IfOk, MatchOption};
 ghost use Rattle.tk_near.specs.declared.plane.placed.Placed.{Placed};
 ghost use Rattle.tk_near.specs.Placed.{IsPlaced, IsRow, placed_city};
@@ -13,8 +13,8 @@ use std::alloc::{AllocError, Global};
 use std::marker::Model;
 use tk_distance::{BothAxes, Planar};
 
-/// A city, and the turns that lead to the part of the tree where it was seen: the lowest bit is the first turn, and 1
-/// goes to the upper half. Other turns cost time alone.
+/// A city, and the path to the leaf where it was found: bit 0 is the first branch, and 1 means the upper half. A wrong
+/// path costs only time.
 #[derive(Clone, Copy)]
 pub struct Found {
     pub city: u32,
@@ -22,7 +22,7 @@ pub struct Found {
 }
 
 impl Found {
-    /// A city that was not seen yet.
+    /// A city that has not been found in a leaf yet.
     pub fn somewhere(city: u32) -> Found
         ensures { result.city ≡ city }
     {
@@ -30,7 +30,7 @@ impl Found {
     }
 }
 
-/// Cities of a metric: at first all, and then those that were not taken out.
+/// The unvisited cities of a metric, in a k-d tree; at first, all of them.
 #[derive(Drop)]
 pub struct Left {
     tree: Tree,
@@ -49,10 +49,10 @@ impl Model for Left {
 }
 
 impl Left {
-    /// All cities.
+    /// All cities of a metric.
     ///
     /// # Errors
-    /// `AllocError` where there is no memory for the row of the cities and its tree.
+    /// `AllocError` if memory runs out.
     pub fn all<P: Planar>(alloc: Global, m: &P) -> Result<Left, AllocError>
         ensures { IfOk result (λ left. IsRow (P.size_of m.now) (P.place_of m.now) left) }
     {
@@ -60,8 +60,8 @@ impl Left {
         Ok(Left { tree })
     }
 
-    /// Takes a city out, which is looked for where it was found first, and finds the first of those that are left then,
-    /// by distance and number.
+    /// Removes a city, looking first where it was found, and returns its nearest unvisited city, with ties broken by
+    /// number.
     pub fn visit<P: BothAxes>(&mut self, m: &P, here: Placed, at: Found) -> Option<Found>
         requires here { IsPlaced (P.size_of m.now) (P.place_of m.now) here }
         requires apart { ArePlacedApart (P.size_of m.now) (P.place_of m.now) self.old }
@@ -85,7 +85,7 @@ impl Left {
     }
 }
 
-/// Where the city stands in the row.
+/// The index of a city in a row.
 fn index_of(row: &[Placed], p: &Placed) -> Option<usize>
     ensures { MatchOption result (IsNotIn p.now row.now)
         (λ i. (i < length row.now) × (placed_city row.now i ≡ p.now.city)) }
@@ -98,8 +98,8 @@ fn index_of(row: &[Placed], p: &Placed) -> Option<usize>
     None
 }
 
-/// What is left of a part, from which a city was taken. No contract reads it: it tells which boxes to make anew, and a
-/// box that is not made anew costs time alone.
+/// Whether a subtree has cities left after one was removed. No contract depends on it: it decides which boxes are
+/// recomputed, and a box that is not recomputed costs only time.
 #[derive(Clone, Copy)]
 enum Rest {
     Some,
@@ -112,7 +112,7 @@ impl Rest {
     }
 }
 
-/// The box of the cities of a tree.
+/// The bounding box of the cities of a tree.
 fn frame_over(tree: &Tree) -> Frame
     requires { IsFramed tree.now }
     ensures { All (IsInBox result) (entries_of tree.now) }
@@ -123,7 +123,7 @@ fn frame_over(tree: &Tree) -> Frame
     }
 }
 
-/// Makes the box of a tree anew if no city is left in it, so that no search enters it.
+/// Recomputes the bounding box of a tree if no city is left in it, so that no search enters it.
 #[inline(always)]
 fn renew(frame: &mut Frame, tree: &Tree, rest: Rest)
     requires framed { IsFramed tree.now }
@@ -135,7 +135,7 @@ fn renew(frame: &mut Frame, tree: &Tree, rest: Rest)
     }
 }
 
-/// What is left of a part, of which one half was left so.
+/// Whether a tree has cities left, given whether one half has, and the box of the other half.
 #[inline(always)]
 fn rest_of(half: Rest, other: &Frame) -> Rest {
     match half {
@@ -144,7 +144,7 @@ fn rest_of(half: Rest, other: &Frame) -> Rest {
     }
 }
 
-/// Takes a city out of a row, and tells what is left, if it was there.
+/// Removes a city from a row, and returns whether cities are left; `None` if the city was not there.
 fn take_from_leaf(row: &mut Vec<Placed>, p: &Placed) -> Option<Rest>
     ensures { MatchOption result ((row.new.items ≡ row.old.items) × IsNotIn p.now row.old.items)
         (λ _. IsTakenOut p.now row.old.items row.new.items) }
@@ -154,8 +154,8 @@ fn take_from_leaf(row: &mut Vec<Placed>, p: &Placed) -> Option<Rest>
     Some(Rest::of(row.is_empty()))
 }
 
-/// Takes the city here out of a tree, shows what is near of the others, and tells what is left, if it was there. It is
-/// looked for at the end of these turns first.
+/// Removes the city `here` from a tree, looking at the end of the path `sides` first, and passes the near ones of the
+/// other cities to `keeper`. Returns whether cities are left; `None` if `here` was not there.
 #[cycle(take_from)]
 fn take_from<P: BothAxes, K: Keeper>(
     m: &P,
@@ -217,8 +217,8 @@ fn take_from<P: BothAxes, K: Keeper>(
     }
 }
 
-/// Takes the city here out of the first of two halves, or else out of the second, shows what is near of the others, and
-/// tells what is left, if it was there.
+/// Removes the city `here` from the first of two halves, or otherwise from the second, and passes the near ones of the
+/// other cities to `keeper`. Returns whether cities are left; `None` if `here` was not there.
 #[cycle(take_from)]
 #[inline(always)]
 fn take_from_halves<P: BothAxes, K: Keeper>(

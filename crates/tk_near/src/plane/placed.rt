@@ -1,4 +1,4 @@
-//! Cities with their places.
+//! Cities with their coordinates.
 ghost use Rattle.std.specs.Prelude.{◌≡◌, IfOk};
 ghost use Rattle.tk_near.specs.Placed.{IsRow, x_gap};
 
@@ -6,7 +6,7 @@ use std::alloc::{AllocError, Global};
 use tk_distance::Planar;
 use tk_problem::Point;
 
-/// A city with its place.
+/// A city with its coordinates.
 #[derive(Clone, Copy, Drop)]
 pub struct Placed {
     pub place: Point,
@@ -22,10 +22,10 @@ impl Placed {
     }
 }
 
-/// The cities with their places, in the order of their numbers.
+/// The cities with their coordinates, in the order of their numbers.
 ///
 /// # Errors
-/// `AllocError` where there is no memory for the row.
+/// `AllocError` if memory runs out.
 pub fn row_of<P: Planar>(alloc: Global, m: &P) -> Result<Vec<Placed>, AllocError>
     ensures { IfOk result (λ v. IsRow (P.size_of m.now) (P.place_of m.now) v.items) }
 {

@@ -13,10 +13,10 @@ use crate::plane::placed::{Placed, row_of};
 use std::alloc::{AllocError, Global};
 use tk_distance::Planar;
 
-/// The cities in the order of x.
+/// The cities with their coordinates, in x order.
 ///
 /// # Errors
-/// `AllocError` where there is no memory for the row.
+/// `AllocError` if memory runs out.
 pub fn order_by_x<P: Planar>(alloc: Global, m: &P) -> Result<Vec<Placed>, AllocError>
     ensures { IfOk result (λ v. IsXOrder (P.size_of m.now) (P.place_of m.now) v.items) }
 {
@@ -25,7 +25,7 @@ pub fn order_by_x<P: Planar>(alloc: Global, m: &P) -> Result<Vec<Placed>, AllocE
     Ok(row)
 }
 
-/// Whether no city at this difference in x can be as near as the last of the kept.
+/// Whether no city at this difference in x can be as near as the last candidate kept.
 fn is_far<P: Planar>(m: &P, difference: u64, kept: &[Candidate]) -> bool
     requires difference { difference ≤ reach }
     requires room { 1 ≤ length kept.now }
@@ -35,7 +35,7 @@ fn is_far<P: Planar>(m: &P, difference: u64, kept: &[Candidate]) -> bool
     m.floor_x(difference) > last.distance as i64
 }
 
-/// Keeps a city, unless it is too far in x, with all beyond it: whether it was not.
+/// Keeps a city if it is near enough. Returns `false` if it is too far in x, as are all cities beyond it.
 #[inline]
 fn meet<P: Planar>(m: &P, here: Placed, there: Placed, kept: &mut [Candidate]) -> bool
     requires here { IsPlaced (P.size_of m.now) (P.place_of m.now) here }
@@ -55,7 +55,8 @@ fn meet<P: Planar>(m: &P, here: Placed, there: Placed, kept: &mut [Candidate]) -
     true
 }
 
-/// One place down; 0 where that side ends.
+/// Visits the next city to the left. Returns the new left end of the swept range, or 0 if all cities beyond are too
+/// far.
 fn sweep_down<P: Planar>(
     m: &P,
     row: &[Placed],
@@ -79,7 +80,8 @@ fn sweep_down<P: Planar>(
     }
 }
 
-/// One place up; the end where that side ends.
+/// Visits the next city to the right. Returns the new right end of the swept range, or the end of the row if all cities
+/// beyond are too far.
 fn sweep_up<P: Planar>(
     m: &P,
     row: &[Placed],
@@ -103,7 +105,7 @@ fn sweep_up<P: Planar>(
     }
 }
 
-/// The first of the cities other than that at place p, as many as there is room for.
+/// Finds the nearest other cities of the city at position p, as many as there is room for.
 fn sweep_city<P: Planar>(m: &P, row: &[Placed], p: usize, kept: &mut [Candidate])
     requires order { IsXOrder (P.size_of m.now) (P.place_of m.now) row.now }
     requires place { p < length row.now }
@@ -140,11 +142,11 @@ fn fill_lists<P: Planar>(m: &P, row: &[Placed], kept: &mut [Candidate], entries:
     }
 }
 
-/// The near lists by a sweep from each city to both sides in x order, which takes long where many cities have almost
-/// the same x. Where they differ more in y, the metric can be given as [`Turned`](tk_distance::Turned).
+/// The near lists, by a sweep from each city in both directions of the x order. It is slow if many cities have almost
+/// the same x; if they differ more in y, wrap the metric in [`Turned`](tk_distance::Turned).
 ///
 /// # Errors
-/// `AllocError` if there is no memory for the row, or for n lists of k cities.
+/// `AllocError` if memory runs out.
 pub fn near_sweep<P: Planar>(alloc: Global, m: &P, k: u32) -> Result<Near, AllocError>
     requires low { 1 ≤ k }
     requires limit { k ≤ CANDIDATE_LIMIT }

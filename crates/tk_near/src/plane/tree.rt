@@ -19,16 +19,16 @@ use std::alloc::{AllocError, Global};
 use tk_distance::{BothAxes, Planar};
 use tk_problem::{COORDINATE_LIMIT, SCALE};
 
-/// At most so many cities stand in a leaf.
+/// Maximum number of cities in a leaf.
 const LEAF: usize = 16;
 
-/// About so many cities of a row tell whether it takes more room in y than in x.
+/// Approximate number of cities in the sample that decides whether a row is taller than wide.
 const SAMPLE: usize = 16;
 
-/// The most that two places differ in a coordinate.
+/// Maximum difference of two coordinates.
 const WIDEST: u64 = 2 * COORDINATE_LIMIT * SCALE as u64;
 
-/// A box round the cities of a part, and the range of their numbers.
+/// The bounding box of a subtree's cities, and the range of their numbers.
 #[derive(Clone, Copy, Drop)]
 pub struct Frame {
     pub left: i64,
@@ -39,14 +39,14 @@ pub struct Frame {
     pub greatest: u32,
 }
 
-/// Cities in parts.
+/// A k-d tree: a leaf with cities, or two subtrees with their bounding boxes.
 #[derive(Drop)]
 pub enum Tree {
     Leaf(Vec<Placed>),
     Cut(Frame, Box<Tree>, Frame, Box<Tree>),
 }
 
-/// The box of no city.
+/// The bounding box of no cities.
 const NOTHING: Frame = Frame {
     left: i64::MAX,
     right: i64::MIN,
@@ -70,7 +70,7 @@ fn gap_between(at: i64, low: i64, high: i64) -> u64
 }
 
 impl Frame {
-    /// The box of one city.
+    /// The bounding box of one city.
     fn of(p: Placed) -> Frame
         ensures { IsInBox result p }
     {
@@ -84,7 +84,7 @@ impl Frame {
         }
     }
 
-    /// The least box that has a further city.
+    /// The smallest box that contains this one and a further city.
     fn widened(self, p: Placed) -> Frame
         ensures this { IsInBox result p }
         ensures others { (q : Placed) → IsInBox self q → IsInBox result q }
@@ -92,7 +92,7 @@ impl Frame {
         self.joined(Frame::of(p))
     }
 
-    /// The least box that has the cities of both.
+    /// The smallest box that contains both boxes.
     pub fn joined(self, other: Frame) -> Frame
         ensures first { (p : Placed) → IsInBox self p → IsInBox result p }
         ensures second { (p : Placed) → IsInBox other p → IsInBox result p }
@@ -107,7 +107,7 @@ impl Frame {
         }
     }
 
-    /// A difference in x, or in y, that each city of the box has from here.
+    /// A lower bound of the difference in x or in y between `here` and each city of the box.
     #[inline(always)]
     fn gap(&self, here: &Placed) -> u64
         ensures limit { result ≤ reach }
@@ -118,7 +118,7 @@ impl Frame {
         gap_x.max(gap_y).min(WIDEST)
     }
 
-    /// What no city of the box comes before, seen from here.
+    /// A candidate of `here` that no city of the box comes before.
     #[inline(always)]
     fn first<P: BothAxes>(&self, m: &P, here: &Placed) -> Candidate
         requires { IsPlaced (P.size_of m.now) (P.place_of m.now) here.now }
@@ -139,19 +139,19 @@ impl Frame {
         }
     }
 
-    /// Whether it is the box of no city.
+    /// Whether this is the bounding box of no cities.
     #[inline(always)]
     pub fn is_void(&self) -> bool {
         self.greatest < self.least
     }
 
-    /// Whether the box takes more room in y than in x.
+    /// Whether the box is taller than wide.
     fn is_tall(self) -> bool {
         self.top.abs_diff(self.bottom) > self.right.abs_diff(self.left)
     }
 }
 
-/// The box of these cities.
+/// The bounding box of these cities.
 pub fn frame_of(row: &[Placed]) -> Frame
     ensures { All (IsInBox result) row.now }
 {
@@ -162,8 +162,8 @@ pub fn frame_of(row: &[Placed]) -> Frame
     frame
 }
 
-/// Whether a row takes more room in y than in x, as far as some of its cities tell. It has no contract: another answer
-/// costs time alone.
+/// Whether a row is taller than wide, judged by a sample of its cities. It has no contract: a wrong answer costs only
+/// time.
 fn is_tall(row: &[Placed]) -> bool {
     let mut frame = NOTHING;
     for part in row.chunks(row.len() / SAMPLE + 1) {
@@ -174,7 +174,7 @@ fn is_tall(row: &[Placed]) -> bool {
     frame.is_tall()
 }
 
-/// The tree of a few cities, which is a leaf, and their box.
+/// A leaf with these cities, and their bounding box.
 fn leaf_of(alloc: Global, row: &[Placed]) -> Result<(Tree, Frame), AllocError>
     ensures entries { IfOk result (λ r. entries_of r.0 ≡ row.now) }
     ensures framed { IfOk result (λ r. IsFramed r.0) }
@@ -185,7 +185,7 @@ fn leaf_of(alloc: Global, row: &[Placed]) -> Result<(Tree, Frame), AllocError>
     Ok((Tree::Leaf(leaf), frame_of(row)))
 }
 
-/// The tree of two halves, each given with its box, and the box of both.
+/// The tree of two halves, each given with its bounding box, and the bounding box of both.
 fn cut_into(
     alloc: Global,
     lower: (Tree, Frame),
@@ -205,7 +205,7 @@ fn cut_into(
     Ok((tree, lower_frame.joined(upper_frame)))
 }
 
-/// The tree of these cities, which are put in its order, and their box.
+/// Builds the tree of these cities, brings them into its order, and returns the tree and their bounding box.
 fn plant(alloc: Global, row: &mut [Placed]) -> Result<(Tree, Frame), AllocError>
     ensures moved { IfOk result (λ _. IsPermutation row.old row.new) }
     ensures entries { IfOk result (λ r. entries_of r.0 ≡ row.new) }
@@ -225,7 +225,7 @@ fn plant(alloc: Global, row: &mut [Placed]) -> Result<(Tree, Frame), AllocError>
 /// The cities of a metric in the order of a tree, and that tree.
 ///
 /// # Errors
-/// `AllocError` where there is no memory for them.
+/// `AllocError` if memory runs out.
 pub fn planted<P: Planar>(alloc: Global, m: &P) -> Result<(Vec<Placed>, Tree), AllocError>
     ensures row { IfOk result (λ r. IsRow (P.size_of m.now) (P.place_of m.now) r.0.items) }
     ensures entries { IfOk result (λ r. entries_of r.1 ≡ r.0.items) }
@@ -236,31 +236,31 @@ pub fn planted<P: Planar>(alloc: Global, m: &P) -> Result<(Vec<Placed>, Tree), A
     Ok((row, tree))
 }
 
-/// The turns that lead from the whole tree to a part of it: bit i is 1 where turn i goes to the upper half. No contract
-/// reads them: they tell where a city was seen, so that it can be taken out there.
+/// The branches from the root of the tree to a subtree: bit i is 1 if branch i leads to the upper half. No contract
+/// depends on them: they record where a city was found, so that it can be removed there.
 #[derive(Clone, Copy)]
 pub struct Path {
     sides: u64,
     next: u64,
 }
 
-/// No turn yet.
+/// The path of the root.
 pub const START: Path = Path { sides: 0, next: 1 };
 
 impl Path {
-    /// The turns so far, one bit each.
+    /// The branches taken, one bit each.
     #[inline(always)]
     pub fn sides(self) -> u64 {
         self.sides
     }
 
-    /// Whether these turns go to the upper half next.
+    /// Whether the path `sides` leads to the upper half next.
     #[inline(always)]
     pub fn goes_up(self, sides: u64) -> bool {
         sides & self.next != 0
     }
 
-    /// One more turn, to the lower half.
+    /// The path of the lower half.
     #[inline(always)]
     pub fn lower(self) -> Path {
         Path {
@@ -269,7 +269,7 @@ impl Path {
         }
     }
 
-    /// One more turn, to the upper half.
+    /// The path of the upper half.
     #[inline(always)]
     pub fn upper(self) -> Path {
         Path {
@@ -279,7 +279,7 @@ impl Path {
     }
 }
 
-/// Whether a part may have a city for the kept, none of whose cities comes before `first`.
+/// Whether a subtree can contain a candidate to keep, given that none of its cities comes before `first`.
 #[inline(always)]
 fn may_enter(first: Candidate, last: Candidate) -> bool
     ensures { IsTrue result ↔ (rank first < rank last) }
@@ -287,7 +287,7 @@ fn may_enter(first: Candidate, last: Candidate) -> bool
     first.is_before(last)
 }
 
-/// Shows a city to what keeps the first.
+/// Passes a city to `keeper`.
 #[inline(always)]
 fn show<P: Planar, K: Keeper>(m: &P, here: &Placed, there: &Placed, sides: u64, keeper: &mut K)
     requires here { IsPlaced (P.size_of m.now) (P.place_of m.now) here.now }
@@ -299,7 +299,7 @@ fn show<P: Planar, K: Keeper>(m: &P, here: &Placed, there: &Placed, sides: u64, 
     }
 }
 
-/// Shows the cities of a leaf.
+/// Passes the cities of a leaf to `keeper`.
 pub fn search_leaf<P: Planar, K: Keeper>(
     m: &P,
     here: &Placed,
@@ -316,7 +316,8 @@ pub fn search_leaf<P: Planar, K: Keeper>(
     }
 }
 
-/// Shows what is near of a part: a half is left out if no city of its box comes before the last of the kept.
+/// Passes the near cities of a tree to `keeper`. A half is skipped if no city of its box comes before the last one
+/// kept.
 pub fn search<P: BothAxes, K: Keeper>(m: &P, here: &Placed, tree: &Tree, path: Path, keeper: &mut K)
     requires here { IsPlaced (P.size_of m.now) (P.place_of m.now) here.now }
     requires placed { All (IsPlaced (P.size_of m.now) (P.place_of m.now)) (entries_of tree.now) }
@@ -348,7 +349,7 @@ pub fn search<P: BothAxes, K: Keeper>(m: &P, here: &Placed, tree: &Tree, path: P
     }
 }
 
-/// Shows what is near of a half, which is left out if no city of its box comes before the last of the kept.
+/// Passes the near cities of a half to `keeper`. It is skipped if no city of its box comes before the last one kept.
 #[inline(always)]
 pub fn search_half<P: BothAxes, K: Keeper>(
     m: &P,
@@ -370,7 +371,7 @@ pub fn search_half<P: BothAxes, K: Keeper>(
     }
 }
 
-/// The first of the cities other than that here, as many as there is room for.
+/// Finds the nearest other cities of the city `here`, as many as there is room for.
 fn search_city<P: BothAxes>(m: &P, here: &Placed, tree: &Tree, many: &mut Many)
     requires here { IsPlaced (P.size_of m.now) (P.place_of m.now) here.now }
     requires row { IsRow (P.size_of m.now) (P.place_of m.now) (entries_of tree.now) }
@@ -405,10 +406,10 @@ fn fill_from_tree<P: BothAxes>(
     }
 }
 
-/// The near lists by a search of this tree for each city, in the order of the row.
+/// The near lists, by a search of this tree for each city, in the order of the row.
 ///
 /// # Errors
-/// `AllocError` if there is no memory for n lists of k cities.
+/// `AllocError` if memory runs out.
 fn lists_by_tree<P: BothAxes>(
     alloc: Global,
     m: &P,
@@ -430,10 +431,10 @@ fn lists_by_tree<P: BothAxes>(
     Ok(Near::from_filled(m, k, entries))
 }
 
-/// The near lists by a search of a tree for each city.
+/// The near lists, by a search of a k-d tree for each city.
 ///
 /// # Errors
-/// `AllocError` if there is no memory for the tree, or for n lists of k cities.
+/// `AllocError` if memory runs out.
 pub fn near_tree<P: BothAxes>(alloc: Global, m: &P, k: u32) -> Result<Near, AllocError>
     requires low { 1 ≤ k }
     requires limit { k ≤ CANDIDATE_LIMIT }
