@@ -1,15 +1,15 @@
 -- The nearest-neighbour tour of a distance table over the cities 1 to n.
---     IsNearestTour dist n start cities      from the start on, each next city is the first of those that are left
+--     IsNearestTour dist n start cities      from the start on, each next city is the nearest unvisited one
 use Rattle.std.specs.Prelude.{◌≡◌, ℕ, ◌+◌, ◌<◌, List, length, slice_index}
 use Rattle.tk_distance.specs.Cities.{IsCity}
 use Rattle.tk_near.specs.Near.{IsFirst, IsNew}
 
--- the city after place j, from 0, is the first, seen from that at place j, of those that do not stand before it
+-- the city after position j, counted from 0, is the nearest to that at position j of those that do not occur before it
 abbrev pub IsNearestAt : (ℕ → ℕ → ℕ) → ℕ → List ℕ → ℕ → Type 0
 IsNearestAt dist n cities j =
     IsFirst dist (slice_index cities j) (λ b. IsCity n b × IsNew cities (j + 1) b) (slice_index cities (j + 1))
 
--- from the start on, each next city is the first of those not yet in the list
+-- from the start on, each next city is the nearest of those not yet in the list
 pub record IsNearestTour (dist : ℕ → ℕ → ℕ) (n start : ℕ) (cities : List ℕ) : Type 0 where
   pub count : length cities ≡ n
   pub first : slice_index cities 0 ≡ start

@@ -1,10 +1,10 @@
--- Pairs as keys, which are numbers of 64 bits: the lesser of two stands for the pair that comes first.
---     pair_at k      the pair that key k stands for
---     IsWide p      a pair that has no key, since its saving is too great for one
+-- Pairs as keys, which are 64-bit numbers: the smaller of two keys represents the pair that comes first.
+--     pair_at k      the pair that key k represents
+--     IsWide p      a pair that has no key, since its saving is too large for one
 use Rattle.std.specs.Prelude.{ℕ, ◌-◌, ◌/◌, ◌%◌, ◌<◌}
 use Rattle.tk_starts.specs.declared.merges.pairs.Pair.{Pair}
 
--- the first 30 bits tell how far the saving is below 2^30 - 1, and 17 bits each tell the lesser and the greater city
+-- the first 30 bits are 2^30 - 1 less the saving; the smaller and the larger city number follow, with 17 bits each
 abbrev pub pair_at : ℕ → Pair
 pair_at k = record {
   saving = record { 0 = 1073741823 - k / 131072 / 131072 };

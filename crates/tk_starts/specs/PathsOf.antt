@@ -1,4 +1,4 @@
--- Paths as the code keeps them: of each city its neighbours, and at the ends of a path the other end and the load.
+-- Paths as the code stores them: for each city its neighbours, and for each end of a path the other end and the load.
 use Rattle.std.specs.Prelude.{◌≡◌, ◌≢◌, ℕ, ◌+◌, ◌-◌, ◌<◌, List, length, map, vec_len, Vec}
 use Rattle.std.specs.declared.alloc.Global.{Global}
 use Rattle.tk_distance.specs.Cities.{IsCity}
@@ -11,7 +11,7 @@ use Rattle.tk_starts.specs.PathEnds.{AreJoined, IsSetAt, at, load_of}
 abbrev pub HaveSize : Paths → ℕ → Type 0
 HaveSize p n = (vec_len p.one ≡ n) × (vec_len p.two ≡ n) × (vec_len p.other ≡ n) × (vec_len p.load ≡ n)
 
--- the lists have the same number of entries
+-- the lists have the same length
 abbrev pub AreEven : Paths → Type 0
 AreEven p = (vec_len p.two ≡ vec_len p.one) × (vec_len p.other ≡ vec_len p.one) × (vec_len p.load ≡ vec_len p.one)
 
@@ -21,30 +21,30 @@ AreSingle loads p =
     (c : ℕ) → IsCity (length loads) c → (at p.one.items c ≡ 0) × (at p.two.items c ≡ 0) × (at p.other.items c ≡ c)
     × (at p.load.items c ≡ load_of loads c)
 
--- the other ends of the paths of i and j are cities, and not the same
+-- the other ends of the paths of i and j are within the lists, and differ
 abbrev pub HaveEnds : Paths → ℕ → ℕ → Type 0
 HaveEnds p i j =
     (at p.other.items i < vec_len p.one) × (at p.other.items j < vec_len p.one)
     × (at p.other.items i ≢ at p.other.items j)
 
--- of the paths of i and j, which are joined, each end has the end of the other as its other end
+-- the paths of i and j are joined: the other end of each becomes the other end of the other's
 abbrev pub EndsMeet : ℕ → ℕ → Paths → Paths → Type 0
 EndsMeet i j old new =
     IsSetAt (at old.other.items i) (at old.other.items j) (at old.other.items j) (at old.other.items i)
     (at old.other.items) (at new.other.items)
 
--- and both ends have the load of the two
+-- both ends of the joined path get the total load
 abbrev pub LoadsMeet : ℕ → ℕ → Paths → Paths → Type 0
 LoadsMeet i j old new =
     IsSetAt (at old.other.items i) (at old.load.items i + at old.load.items j) (at old.other.items j)
     (at old.load.items i + at old.load.items j) (at old.load.items) (at new.load.items)
 
--- the paths that these joints make, with these loads
+-- the paths that these joints form, with these loads
 abbrev pub AreOf : Paths → (ℕ → ℕ) → List Pair → Type 0
 AreOf p load joints =
     AreJoined (vec_len p.one - 1) load joints p.one.items p.two.items p.other.items p.load.items
 
--- these are the lists of the paths, but for that of the hub, which is in no joint
+-- these are the lists of the paths, except for that of the hub, which is in no joint
 abbrev pub AreListsOf : Paths → ℕ → List (Vec ℕ Global) → Type 0
 AreListsOf p hub lists =
     (load : ℕ → ℕ) (joints : List Pair) → AreOf p load joints → joints_at joints hub ≡ 0

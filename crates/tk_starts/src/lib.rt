@@ -1,4 +1,4 @@
-//! Starting tours: by the nearest city, and by the savings of joining paths.
+//! Tour construction: nearest neighbour and savings.
 #![tactic(auto)]
 
 mod merges;

@@ -1,4 +1,4 @@
-//! Savings merges.
+//! The savings algorithm.
 
 pub mod laws;
 pub mod pair_list;

@@ -1,4 +1,4 @@
-//! Tours that go on to the nearest city.
+//! Nearest-neighbour tours.
 
 pub mod by_tree;
 pub mod laws;

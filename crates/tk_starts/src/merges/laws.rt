@@ -1,11 +1,11 @@
-//! What the parts of the savings merges are, and what determines them.
+//! Laws of the savings algorithm, as contracts of functions that do nothing.
 ghost use Rattle.std.specs.Prelude.{◌≡◌, ◌↔◌};
 ghost use Rattle.tk_starts.specs.Joints.{part, IsConnected};
 ghost use Rattle.tk_starts.specs.SavingsMerges.{PairsAgree, ListsAgree};
 
 use crate::merges::pairs::Pair;
 
-/// A law: two cities are in the same part exactly where a path of joints leads from the one to the other.
+/// A law: two cities are in the same part exactly if a path of joints leads from one to the other.
 pub fn parts_are_connected(joints: &[Pair], a: u32, b: u32)
     ensures { (part joints.now a ≡ part joints.now b) ↔ IsConnected joints.now a b }
 {}
@@ -15,8 +15,8 @@ pub fn saving_pairs_agree()
     ensures { PairsAgree }
 {}
 
-/// A law: with the loads and the capacity too they determine the lists of the savings merges: their order, and the
-/// order of the cities in each.
+/// A law: together with the loads and the capacity, they determine the lists of the savings algorithm: the order of the
+/// lists, and the order of the cities in each.
 pub fn savings_lists_agree()
     ensures { ListsAgree }
 {}

@@ -1,4 +1,4 @@
-//! Lists of pairs. They are kept as keys, which take half the memory of pairs and less time to compare.
+//! Lists of pairs. They are stored as keys, which take half the memory of pairs and less time to compare.
 ghost use Rattle.std.specs.Prelude.{◌≡◌, ◌<◌, ◌++◌, ◌∷◌, [], ◌↔◌, OnOk, List, map, length, slice_index_or};
 ghost use Rattle.std.specs.List.{All, AllPairs, Contains};
 ghost use Rattle.std.specs.List.Sorted.{IsPermutation};
@@ -11,13 +11,13 @@ use std::alloc::{AllocError, Global};
 use std::cmp::Reverse;
 use std::marker::Model;
 
-/// A key has room for savings below this.
+/// Savings below this fit into a key.
 const SAVING_END: u64 = 1_073_741_824;
 
-/// A key has room for cities below this.
+/// Cities below this fit into a key.
 const CITY_END: u64 = 131_072;
 
-/// A list of pairs: those with a saving of 2^30 and more, which come first, and the keys of the others.
+/// A list of pairs: those with a saving of 2^30 or more, which come first, and the keys of the others.
 #[derive(Drop)]
 pub(crate) struct PairList {
     wide: Vec<Pair>,
@@ -37,7 +37,7 @@ impl Model for PairList {
     ghost invariant = { λ v. All IsWide v.wide.items × All IsKey v.keys.items };
 }
 
-/// The key of a pair, where its saving and its cities have room in one.
+/// The key of a pair whose saving and cities fit into one.
 fn key_of(pair: &Pair) -> u64
     requires saving { pair.now.saving.0 < 1073741824 }
     requires cities { (pair.now.i < 131072) × (pair.now.j < 131072) }
@@ -46,7 +46,7 @@ fn key_of(pair: &Pair) -> u64
     ((SAVING_END - 1 - pair.saving.0) * CITY_END + pair.i as u64) * CITY_END + pair.j as u64
 }
 
-/// The pair that a key stands for.
+/// The pair that a key represents.
 fn pair_of(key: u64) -> Pair
     ensures { result ≡ pair_at key }
 {
@@ -59,7 +59,7 @@ fn pair_of(key: u64) -> Pair
 }
 
 impl PairList {
-    /// No pairs.
+    /// An empty list.
     pub(crate) fn new(alloc: Global) -> PairList
         ensures { result ≡ [] }
     {
@@ -69,10 +69,10 @@ impl PairList {
         }
     }
 
-    /// Adds a pair, wherever.
+    /// Adds a pair, at any position.
     ///
     /// # Errors
-    /// `AllocError` if there is no memory for it.
+    /// `AllocError` if memory runs out.
     pub(crate) fn push(&mut self, pair: Pair) -> Result<(), AllocError>
         requires cities { (pair.i < 131072) × (pair.j < 131072) }
         ensures { OnOk result (IsPermutation (self.old ++ pair ∷ []) self.new) }
@@ -85,7 +85,7 @@ impl PairList {
         Ok(())
     }
 
-    /// Puts the pairs into the rule's order, each once.
+    /// Sorts the pairs in the order of the savings rule, and removes repetitions.
     pub(crate) fn put_in_order(&mut self)
         ensures order { AllPairs Before self.new }
         ensures all { (p : Pair) → Contains self.new p ↔ Contains self.old p }
@@ -96,14 +96,14 @@ impl PairList {
         self.keys.dedup();
     }
 
-    /// How many pairs there are.
+    /// The number of pairs.
     pub(crate) fn len(&self) -> usize
         ensures { result ≡ length self.now }
     {
         self.wide.len() + self.keys.len()
     }
 
-    /// The pair at a place.
+    /// The pair at a position, counted from 0.
     pub(crate) fn at(&self, k: usize) -> Pair
         requires { k < length self.now }
         ensures { result ≡ slice_index_or self.now k result }

@@ -12,18 +12,18 @@ use std::cmp::Reverse;
 use tk_distance::Metric;
 use tk_near::Near;
 
-/// Two cities i < j, and what is saved by going from the one to the other in place of twice to the hub.
+/// Two cities i < j and their saving: what the edge i-j costs less than the two trips to the hub that it replaces.
 #[derive(Clone, Copy, PartialEq, Eq, PartialOrd, Ord, Drop)]
 pub struct Pair {
-    /// What is saved: the greatest comes first.
+    /// The saving; the largest comes first.
     pub saving: Reverse<u64>,
-    /// The lesser city.
+    /// The smaller city number.
     pub i: u32,
-    /// The greater city.
+    /// The larger city number.
     pub j: u32,
 }
 
-/// The distance of each city from the hub, at the number of the city.
+/// The distance of each city from the hub, indexed by city number.
 fn hub_distances<M: Metric>(alloc: Global, metric: &M, hub: u32) -> Result<Vec<u64>, AllocError>
     requires hub { IsCity (M.size_of metric.now) hub }
     ensures { IfOk result (λ v. AreFromHub (M.distance metric.now) (M.size_of metric.now) hub v.items) }
@@ -36,7 +36,7 @@ fn hub_distances<M: Metric>(alloc: Global, metric: &M, hub: u32) -> Result<Vec<u
     Ok(distances)
 }
 
-/// What is saved by going from i to j in place of twice to the hub, or 0.
+/// The saving of the edge i-j: what it costs less than the two trips to the hub that it replaces, or 0.
 fn saving<M: Metric>(metric: &M, hub: u32, from_hub: &[u64], i: u32, j: u32) -> u64
     requires cities { IsCity (M.size_of metric.now) hub × IsCity (M.size_of metric.now) i
         × IsCity (M.size_of metric.now) j }
@@ -47,7 +47,7 @@ fn saving<M: Metric>(metric: &M, hub: u32, from_hub: &[u64], i: u32, j: u32) -> 
     apart.saturating_sub(metric.dist(i, j) as u64)
 }
 
-/// The pair of two cities, where neither is the hub and it saves anything.
+/// The pair of two cities, if neither is the hub and the saving is positive.
 fn pair_of<M: Metric>(metric: &M, hub: u32, from_hub: &[u64], c: u32, d: u32) -> Option<Pair>
     requires cities { IsCity (M.size_of metric.now) hub × IsCity (M.size_of metric.now) c
         × IsCity (M.size_of metric.now) d }
@@ -70,7 +70,7 @@ fn pair_of<M: Metric>(metric: &M, hub: u32, from_hub: &[u64], c: u32, d: u32) ->
     }
 }
 
-/// Whether a city is near another. It goes through the whole list, without a branch.
+/// Whether city d is in the near list of city c. It reads the whole list, to need no branch.
 fn is_near(near: &Near, c: u32, d: u32) -> bool
     requires { IsCity near.now.size c }
     ensures { result ≡ holds (near_of near.now c) d }
@@ -82,7 +82,8 @@ fn is_near(near: &Near, c: u32, d: u32) -> bool
     found
 }
 
-/// The pairs of cities other than the hub, one near the other, that save anything: each once, in the rule's order.
+/// The pairs of cities with a positive saving, without the hub, of which one city is in the near list of the other.
+/// Each pair occurs once, in the order of the savings rule.
 pub(crate) fn candidate_pairs<M: Metric>(
     alloc: Global,
     metric: &M,

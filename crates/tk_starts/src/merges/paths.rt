@@ -1,4 +1,4 @@
-//! The paths that the joints make.
+//! The paths that joints form.
 ghost use Rattle.std.specs.Prelude.{◌≡◌, ◌≢◌, ℕ, ◌+◌, ◌-◌, ◌^◌, ◌≤◌, ◌<◌, IfOk, List, ◌∷◌, length, vec_len};
 ghost use Rattle.std.specs.Prelude.{◌==◌, if◌then◌else◌, not, nat_le, ◌&&◌};
 ghost use Rattle.tk_problem.specs.declared.limits.TheConstants.{CITY_LIMIT};
@@ -11,7 +11,8 @@ ghost use Rattle.tk_starts.specs.PathsOf.{LoadsMeet};
 use crate::merges::pairs::Pair;
 use std::alloc::{AllocError, Global};
 
-/// Of each city up to two neighbours (0 for none), and where it ends a path, the other end and the path's load.
+/// For each city, up to two neighbours (0 for none); for each end of a path, also the other end and the load of the
+/// path.
 #[derive(Drop)]
 pub struct Paths {
     pub one: Vec<u32>,
@@ -24,7 +25,7 @@ impl Paths {
     /// Each city as a path of its own.
     ///
     /// # Errors
-    /// `AllocError` if there is no memory for the ends and loads of n paths.
+    /// `AllocError` if memory runs out.
     pub fn new(alloc: Global, loads: &[u32]) -> Result<Paths, AllocError>
         requires { length loads.now ≤ CITY_LIMIT }
         ensures sizes { IfOk result (λ p. HaveSize p (length loads.now + 1)) }
@@ -47,7 +48,7 @@ impl Paths {
         })
     }
 
-    /// Whether i and j are ends of two paths that are within the capacity together.
+    /// Whether i and j are ends of two different paths whose total load is within the capacity.
     pub fn may_join(&self, pair: &Pair, capacity: u64) -> bool
         requires sizes { AreEven self.now }
         requires within { IsPairWithin (vec_len self.now.one - 1) pair.now }
@@ -63,7 +64,7 @@ impl Paths {
             && self.load[i as usize] <= capacity - self.load[j as usize]
     }
 
-    /// Whether c ends a path: it has at most one neighbour.
+    /// Whether c is an end of its path: it has at most one neighbour.
     fn is_end(&self, c: u32) -> bool
         requires sizes { vec_len self.now.two ≡ vec_len self.now.one }
         requires city { c < vec_len self.now.one }
@@ -95,7 +96,7 @@ impl Paths {
         self.load[last as usize] = load;
     }
 
-    /// Gives an end c the neighbour d.
+    /// Adds d to the neighbours of c, which is an end.
     fn link(&mut self, c: u32, d: u32)
         requires sizes { vec_len self.old.two ≡ vec_len self.old.one }
         requires city { c < vec_len self.old.one }
@@ -113,7 +114,7 @@ impl Paths {
         }
     }
 
-    /// The neighbour of c that is not `before`, from which c was reached.
+    /// The neighbour of c other than `before`, from which c was reached.
     fn neighbour_past(&self, c: u32, before: u32) -> u32
         requires sizes { vec_len self.now.two ≡ vec_len self.now.one }
         requires city { c < vec_len self.now.one }
@@ -127,10 +128,10 @@ impl Paths {
         }
     }
 
-    /// The path that begins at an end.
+    /// The cities of the path that begins at an end.
     ///
     /// # Errors
-    /// `AllocError` if there is no memory for the list.
+    /// `AllocError` if memory runs out.
     pub fn path(&self, alloc: Global, end: u32) -> Result<Vec<u32>, AllocError>
         requires sizes { vec_len self.now.two ≡ vec_len self.now.one }
         requires some { (xs : List ℕ) × IsWay (vec_len self.now.one - 1) (at self.now.one.items)
@@ -150,7 +151,7 @@ impl Paths {
         Ok(cities)
     }
 
-    /// Whether c is not the hub and the smaller end of its path.
+    /// Whether c is the smaller end of its path, and not the hub.
     fn begins_list(&self, c: u32, hub: u32) -> bool
         requires sizes { (vec_len self.now.two ≡ vec_len self.now.one)
             × (vec_len self.now.other ≡ vec_len self.now.one) }
@@ -161,10 +162,10 @@ impl Paths {
         c != hub && self.is_end(c) && c <= self.other[c as usize]
     }
 
-    /// The paths, but for that of the hub, from their smaller ends.
+    /// The paths except for that of the hub, each from its smaller end.
     ///
     /// # Errors
-    /// `AllocError` if there is no memory for the lists.
+    /// `AllocError` if memory runs out.
     pub fn lists(&self, alloc: Global, hub: u32) -> Result<Vec<Vec<u32>>, AllocError>
         requires sizes { (vec_len self.now.two ≡ vec_len self.now.one)
             × (vec_len self.now.other ≡ vec_len self.now.one) }

@@ -1,4 +1,4 @@
-//! The savings merges.
+//! The savings algorithm.
 ghost use Rattle.std.specs.Prelude.{◌≡◌, ◌+◌, ◌≤◌, IfOk, [], length, vec_len, ◌∷◌};
 ghost use Rattle.std.specs.List.{All, flat_map};
 ghost use Rattle.tk_problem.specs.declared.limits.TheConstants.{CITY_LIMIT};
@@ -15,7 +15,7 @@ use std::alloc::{AllocError, Global};
 use tk_distance::Metric;
 use tk_near::Near;
 
-/// The paths of the joints among the pairs, taken in their order.
+/// Joins the pairs that are allowed to be joined, in their order, and returns the paths.
 fn joined_paths(
     alloc: Global,
     loads: &[u32],
@@ -40,12 +40,12 @@ fn joined_paths(
     Ok(paths)
 }
 
-/// The lists of the savings merges round a hub: each other city begins as a list of its own, and the pairs of near
-/// cities join lists at their ends, the greatest saving first, as long as the joint load is at most the capacity. Each
-/// list begins at its lesser end, and the lists are ordered by first city.
+/// The lists of the savings algorithm around a hub. Each other city begins as a list of its own. The pairs of near
+/// cities then join lists at their ends, the largest saving first, if the total load is at most the capacity. Each list
+/// begins at its smaller end, and the lists are ordered by first city.
 ///
 /// # Errors
-/// `AllocError` where there is no memory for the pairs, the paths or the lists.
+/// `AllocError` if memory runs out.
 pub fn savings_lists<M: Metric>(
     alloc: Global,
     metric: &M,
@@ -69,10 +69,10 @@ pub fn savings_lists<M: Metric>(
     Ok(lists)
 }
 
-/// City 1 followed by the lists of the savings merges with hub 1 and without loads: a tour of all cities.
+/// City 1, followed by the lists of the savings algorithm with hub 1 and without loads: a tour of all cities.
 ///
 /// # Errors
-/// `AllocError` where there is no memory for the merges or the tour.
+/// `AllocError` if memory runs out.
 pub fn savings_tour<M: Metric>(
     alloc: Global,
     metric: &M,

@@ -1,4 +1,4 @@
-//! The nearest-neighbour tour by a tree of the cities that are left.
+//! The nearest-neighbour tour by a tree of the unvisited cities.
 ghost use Rattle.std.specs.Prelude.{◌≡◌, IfOk, MatchOption};
 ghost use Rattle.tk_distance.specs.Cities.{IsCity};
 ghost use Rattle.tk_near.specs.Placed.{IsPlaced};
@@ -11,7 +11,7 @@ use std::alloc::{AllocError, Global};
 use tk_distance::{BothAxes, Planar};
 use tk_near::{Found, Left, Placed};
 
-/// A city with its place.
+/// A city with its coordinates.
 fn placed<P: Planar>(metric: &P, city: u32) -> Placed
     requires { IsCity (P.size_of metric.now) city }
     ensures city { result.city ≡ city }
@@ -21,7 +21,7 @@ fn placed<P: Planar>(metric: &P, city: u32) -> Placed
     Placed { place, city }
 }
 
-/// Takes a city out, and finds the first of those that are left then, if any, by (distance, number).
+/// Removes a city, and returns its nearest unvisited city, if there is one, with ties broken by number.
 fn visit<P: BothAxes>(left: &mut Left, metric: &P, here: Placed, at: Found) -> Option<Found>
     requires here { IsPlaced (P.size_of metric.now) (P.place_of metric.now) here }
     requires apart { ArePlacedApart (P.size_of metric.now) (P.place_of metric.now) left.old }
@@ -34,10 +34,10 @@ fn visit<P: BothAxes>(left: &mut Left, metric: &P, here: Placed, at: Found) -> O
     left.visit(metric, here, at)
 }
 
-/// The tour of `nearest`, by a k-d tree of the cities that are left: each next city is found in it, and then taken out.
+/// The tour of `nearest`, by a k-d tree of the unvisited cities: each next city is found in it, and then removed.
 ///
 /// # Errors
-/// `AllocError` where there is no memory for the n cities and their tree.
+/// `AllocError` if memory runs out.
 pub fn nearest_tree<P: BothAxes>(
     alloc: Global,
     metric: &P,

@@ -1,4 +1,4 @@
-//! The nearest-neighbour tour of a table: by a tree in the plane, else by a scan.
+//! The nearest-neighbour tour of a table: by a tree in the plane, otherwise by a scan.
 ghost use Rattle.std.specs.Prelude.{IfOk};
 ghost use Rattle.tk_distance.specs.Cities.{IsCity};
 ghost use Rattle.tk_distance.specs.Tables.{table_distance, table_size};
@@ -10,10 +10,10 @@ use super::scan::nearest;
 use std::alloc::{AllocError, Global};
 use tk_distance::Table;
 
-/// The nearest-neighbour tour of a table's cities.
+/// The nearest-neighbour tour of the cities of a table.
 ///
 /// # Errors
-/// `AllocError` if there is no memory for it.
+/// `AllocError` if memory runs out.
 pub fn nearest_tour(alloc: Global, table: &Table<'_>, start: u32) -> Result<Vec<u32>, AllocError>
     requires { IsCity (table_size table.now) start }
     ensures nearest { IfOk result (λ v. IsNearestTour (table_distance table.now) (table_size table.now) start v.items) }

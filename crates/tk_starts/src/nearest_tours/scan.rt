@@ -1,4 +1,4 @@
-//! The nearest-neighbour tour by a scan of all cities that are left.
+//! The nearest-neighbour tour by a scan of all unvisited cities.
 ghost use Rattle.std.specs.Prelude.{ℕ, ◌-◌, ◌≤◌, ◌<◌, IfOk, length, slice_index};
 ghost use Rattle.tk_distance.specs.Cities.{IsCity};
 ghost use Rattle.tk_near.specs.Keeping.{rank, candidate};
@@ -9,7 +9,7 @@ use std::alloc::{AllocError, Global};
 use tk_distance::Metric;
 use tk_near::measure;
 
-/// The place, from j on, of the first city as seen from the one before place j.
+/// The position, from j on, of the city that is nearest to the one before position j.
 fn first_from<M: Metric>(metric: &M, cities: &[u32], j: usize) -> usize
     requires cities { (i : ℕ) → i < length cities.now → IsCity (M.size_of metric.now) (slice_index cities.now i) }
     requires low { 1 ≤ j }
@@ -33,7 +33,7 @@ fn first_from<M: Metric>(metric: &M, cities: &[u32], j: usize) -> usize
     at
 }
 
-/// Places the cities after the first, each the first of those that are left.
+/// Puts the cities after the first one in order, each the nearest unvisited city of the one before it.
 fn place_nearest<M: Metric>(metric: &M, cities: &mut Vec<u32>)
     requires size { 1 ≤ M.size_of metric.now }
     requires tour { IsNearestTo (M.distance metric.now) (M.size_of metric.now)
@@ -47,11 +47,11 @@ fn place_nearest<M: Metric>(metric: &M, cities: &mut Vec<u32>)
     }
 }
 
-/// The nearest-neighbour tour: it begins at `start`, and each next city is the first by (distance, number) of those
-/// that are left. It takes n·(n-1)/2 distances.
+/// The nearest-neighbour tour: it begins at `start`, and each next city is the nearest unvisited one, with ties broken
+/// by number. It computes n·(n-1)/2 distances.
 ///
 /// # Errors
-/// `AllocError` where there is no memory for the n cities.
+/// `AllocError` if memory runs out.
 pub fn nearest<M: Metric>(alloc: Global, metric: &M, start: u32) -> Result<Vec<u32>, AllocError>
     requires { IsCity (M.size_of metric.now) start }
     ensures nearest { IfOk result (λ v. IsNearestTour (M.distance metric.now) (M.size_of metric.now) start v.items) }
