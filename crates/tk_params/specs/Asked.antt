@@ -1,4 +1,4 @@
--- What a parameter file asks for: what its keys say, and the defaults of the others.
+-- The parameters that a parameter file specifies: the values of its keys, and the defaults of the others.
 use Rattle.std.specs.Prelude.{◌≢◌, ◌≤◌, ℕ, Bool, true, false, List, [], ◌∷◌, length, Option, Some, None, All, IfSome}
 use Rattle.std.specs.Prelude.{option_map, unwrap_or, if◌then◌else◌}
 use Rattle.std.specs.List.{IsDistinct}
@@ -11,8 +11,8 @@ use Rattle.tk_params.specs.declared.value.Construction.TheVariants.{Nearest}
 use Rattle.tk_params.specs.Keys.{all_keys}
 use Rattle.tk_params.specs.Values.{Value, File, Number, Way, Switch, Ignored, Settings, greatest, least, look, same_key}
 
--- the files, numbers and choices of a search, and the keys that were read and are not used, in the order of the file.
--- Without max_trials a run has as many trials as there are cities
+-- the files, numbers and choices of a search, and the keys that were read but are not used, in the order of the file.
+-- Without max_trials, a run has as many trials as there are cities
 pub record ParamsAre : Type 0 where
   pub problem_file : List ℕ
   pub tour_file : Option (List ℕ)
@@ -47,12 +47,12 @@ abbrev pub is_ignored : Value → Bool
 is_ignored Ignored = true
 is_ignored _ = false
 
--- the keys that are read and not used
+-- the keys that are read but not used
 unfoldable pub ignored_keys : Settings → List Key
 ignored_keys [] = []
 ignored_keys (s ∷ ss) = let rest = ignored_keys ss in if is_ignored s.1 then s.0 ∷ rest else rest
 
--- what settings ask for that name the problem's file
+-- the parameters of settings that name this problem file
 unfoldable pub asked_of : List ℕ → Settings → ParamsAre
 asked_of problem ss =
     record {
@@ -70,13 +70,13 @@ asked_of problem ss =
       ignored = ignored_keys ss;
     }
 
--- what settings ask for; None where they do not name the problem's file
+-- the parameters of settings; None if they do not name the problem file
 abbrev pub asked : Settings → Option ParamsAre
 asked ss = option_map (λ problem. asked_of problem ss) (file_in (look keys.ProblemFile ss))
 
 -- ---- limits
 
--- a name of a file: it is not empty, and has no dollar sign
+-- a file name: it is not empty, and contains no dollar sign
 pub record IsFileName (name : List ℕ) : Type 0 where
   pub some : name ≢ []
   pub no_dollar : All (λ b. b ≢ 36) name
@@ -85,7 +85,7 @@ pub record IsInLimits (low high n : ℕ) : Type 0 where
   pub least : low ≤ n
   pub greatest : n ≤ high
 
--- what a key may say
+-- the values that a key allows
 abbrev pub IsSetting : Key → Value → Type 0
 IsSetting key (File name) = IsFileName name
 IsSetting key (Number n) = IsInLimits (least key) (greatest key) n
@@ -94,7 +94,7 @@ IsSetting key _ = Unit {0}
 abbrev pub AreSettings : Settings → Type 0
 AreSettings ss = All (λ s. IsSetting s.0 s.1) ss
 
--- each key stands at most once
+-- each key occurs at most once
 abbrev pub HasEachKeyOnce : Settings → Type 0
 HasEachKeyOnce ss = IsDistinct same_key (keys_of ss)
 

@@ -1,4 +1,4 @@
--- The keys of parameter files (K. Helsgaun, LKH user guide; "own" in docs/FORMATS.md where they are this project's).
+-- The keys of parameter files (K. Helsgaun, LKH user guide; docs/FORMATS.md lists those that are specific to tourkit).
 use Rattle.std.specs.Prelude.{ℕ, Bool, true, false, List, [], ◌∷◌, Option, codes, find}
 use Rattle.tk_words.specs.Words.{spells}
 use Rattle.tk_params.specs.declared.key.Key.{Key}
@@ -49,7 +49,7 @@ all_keys =
 unfoldable pub key_of : List ℕ → Option Key
 key_of bs = find (λ key. spells bs (key_word key)) all_keys
 
--- a place for each key
+-- a number for each key
 abbrev pub key_code : Key → ℕ
 key_code keys.ProblemFile = 0
 key_code keys.TourFile = 1
@@ -69,7 +69,7 @@ key_code keys.Precision = 14
 key_code keys.TraceLevel = 15
 key_code keys.Optimum = 16
 
--- a key whose value is a file name
+-- whether the value of a key is a file name
 abbrev pub is_file : Key → Bool
 is_file keys.ProblemFile = true
 is_file keys.TourFile = true

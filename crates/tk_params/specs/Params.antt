@@ -15,29 +15,30 @@ use Rattle.tk_params.specs.Values.{Settings, Meaning, Faulty, settings_of, means
 abbrev pub line_limit : ℕ
 line_limit = 4096
 
--- the most bytes of a text
+-- the maximum number of bytes of a text
 abbrev pub params_limit : ℕ
 params_limit = 1048576
 
--- what a text or a fault is
+-- the answer to a text: its parameters, or a fault
 abbrev pub Answer : Type 0
 Answer = Result ParamsAre ParamFault
 
--- the word of a line, and what comes after it
+-- the first word of a line
 abbrev pub word_of : List ℕ → List ℕ
 word_of bs = front is_word_byte (behind is_blank bs)
 
+-- the bytes after the first word of a line
 abbrev pub behind_word : List ℕ → List ℕ
 behind_word bs = behind is_word_byte (behind is_blank bs)
 
 abbrev pub spells_eof : List ℕ → Bool
 spells_eof word = spells word (codes "EOF")
 
--- at this line the text ends, whatever follows
+-- whether the text ends at this line, whatever follows
 abbrev pub is_end : Line → Bool
 is_end l = spells_eof (word_of l.bytes) && (l.whole || not (is_empty (behind_word l.bytes)))
 
--- the bytes of a line that count: of the line of EOF those up to the end of EOF
+-- the number of bytes of a line that count; on the line of EOF, they are those up to the end of EOF
 abbrev pub counted : Line → ℕ
 counted l = length l.bytes - (if is_end l then length (behind_word l.bytes) else 0)
 
@@ -48,7 +49,7 @@ abbrev pub after : ℕ → Meaning → Option Answer → Option Answer
 after n (Faulty kind) rest = Some (Err (record { line = n; kind = kind }))
 after n _ rest = rest
 
--- a line of the text: one that is too long; that of EOF; one that later bytes may change; or what it holds
+-- a line of the text: one that is too long; that of EOF; one that later bytes may change; or its contents
 pub data Piece : Type 0 where
   LongLine : (line : ℕ) → Piece
   End : (line : ℕ) → Piece
@@ -65,7 +66,8 @@ param_piece_of l =
 abbrev pub param_pieces : List Line → List Piece
 param_pieces ls = map param_piece_of ls
 
--- what pieces say after these settings, of which the last before them stands on line n; None where later bytes decide
+-- the answer to pieces, given the settings before them and the line n of the last piece before them; None if later
+-- bytes decide
 unfoldable pub judge_params : ℕ → Settings → List Piece → Option Answer
 judge_params n before [] = Some (answer_at_end n before)
 judge_params n before (LongLine line ∷ ps) = Some (Err (record { line = line; kind = kinds.TooLong }))
@@ -75,11 +77,11 @@ judge_params n before (Holds line entry ∷ ps) =
     let meaning = means before entry in
     after line meaning (judge_params line (before ++ settings_of meaning) ps)
 
--- what bytes say, as a text that begins with them
+-- the answer to a text that begins with these bytes
 unfoldable pub params_decided : Decided ParamsAre ParamFault
 params_decided ended bs = judge_params 1 [] (param_pieces (lines ended 1 bs))
 
--- what a fault is of
+-- the cause of a fault
 abbrev pub param_cause_of : ParamKind → Cause
 param_cause_of kinds.NoMemory = OfMemory
 param_cause_of kinds.Read = OfSource

@@ -1,4 +1,4 @@
--- The values of a parameter file's keys, and what its entries mean.
+-- The values of the keys of a parameter file, and the meaning of its entries.
 use Rattle.std.specs.Prelude.{ℕ, Bool, true, false, not, ◌&&◌, ◌||◌, ◌==◌, List, [], ◌∷◌, Option, Some, None}
 use Rattle.std.specs.Prelude.{option_map, is_some, if◌then◌else◌, codes}
 use Rattle.std.specs.List.{list_any}
@@ -17,7 +17,7 @@ use Rattle.tk_params.specs.declared.fault.ParamKind.TheVariants as kinds
 use Rattle.tk_params.specs.Keys.{key_code, is_file}
 use Rattle.tk_params.specs.Entries.{Entry, Blank, Wrong, Says, entry_of}
 
--- what a key says
+-- the value of a key
 pub data Value : Type 0 where
   File : (name : List ℕ) → Value
   Number : (n : ℕ) → Value
@@ -25,14 +25,14 @@ pub data Value : Type 0 where
   Switch : (on : Bool) → Value
   Ignored : Value
 
--- keys and what they say, in the order of the file
+-- keys and their values, in the order of the file
 abbrev pub Settings : Type 0
 Settings = List (Key × Value)
 
 abbrev pub same_key : Key → Key → Bool
 same_key a b = key_code a == key_code b
 
--- what the key says
+-- the value of the key
 abbrev pub look : Key → Settings → Option Value
 look key ss = lookup (same_key key) ss
 
@@ -58,7 +58,7 @@ greatest _ = 0
 abbrev pub number_within : ℕ → ℕ → List ℕ → Option ℕ
 number_within low high bs = if in_range low high (integer bs) then Some (natural_or_zero (integer bs)) else None
 
--- a number that a key may have
+-- a number that the key allows
 abbrev pub number_value : Key → List ℕ → Option Value
 number_value key bs = option_map Number (number_within (least key) (greatest key) bs)
 
@@ -69,11 +69,11 @@ construction_of bs =
 abbrev pub switch_of : List ℕ → Option Bool
 switch_of bs = if spells bs (codes "YES") then Some true else (if spells bs (codes "NO") then Some false else None)
 
--- a file name has a byte, and is UTF-8
+-- a file name is not empty, and is UTF-8
 abbrev pub file_of : List ℕ → Option Value
 file_of bs = if is_empty bs || not (is_utf8 bs) then None else Some (File bs)
 
--- what a key with this value says
+-- the value of a key, given its bytes; None if the key does not allow it
 abbrev pub setting_value : Key → List ℕ → Option Value
 setting_value keys.Runs bs = number_value keys.Runs bs
 setting_value keys.MaxTrials bs = number_value keys.MaxTrials bs
@@ -92,13 +92,13 @@ setting_value _ bs = file_of bs
 
 -- ---- entries
 
--- what an entry does: nothing, or a fault, or it sets a key
+-- the meaning of an entry: it does nothing, it has a fault, or it sets a key
 pub data Meaning : Type 0 where
   Nothing : Meaning
   Faulty : (kind : ParamKind) → Meaning
   Sets : (key : Key) (value : Value) → Meaning
 
--- what an entry adds
+-- the settings that an entry adds
 abbrev pub settings_of : Meaning → Settings
 settings_of (Sets key value) = (key, value) ∷ []
 settings_of _ = []
@@ -107,23 +107,23 @@ abbrev pub sets : Key → Option Value → Meaning
 sets key None = Faulty kinds.BadValue
 sets key (Some v) = Sets key v
 
--- a file name with a dollar sign
+-- whether a value is a file name with a dollar sign
 abbrev pub has_dollar : Key → List ℕ → Bool
 has_dollar key bs = is_file key && list_any (λ b. b == 36) bs
 
--- a key with its value, after these settings
+-- the meaning of a key with its value, after these settings
 abbrev pub key_means : Settings → Key → List ℕ → Meaning
 key_means before key bs =
     if has_key key before then Faulty kinds.RepeatedKey
     else (if has_dollar key bs then Faulty kinds.DollarInName
     else sets key (setting_value key bs))
 
--- an entry, after these settings
+-- the meaning of an entry, after these settings
 abbrev pub means : Settings → Entry → Meaning
 means before Blank = Nothing
 means before (Wrong kind) = Faulty kind
 means before (Says key bs) = key_means before key bs
 
--- a line without the blanks at its front, after these settings
+-- the meaning of a line, given without leading blanks, after these settings
 abbrev pub line_means : Settings → List ℕ → Meaning
 line_means before bs = means before (entry_of bs)

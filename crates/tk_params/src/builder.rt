@@ -1,4 +1,4 @@
-//! Parameters that are given key by key.
+//! Builds parameters key by key.
 ghost use Rattle.std.specs.Prelude.{◌≡◌, [], OnErr, OnOk, IfErr};
 ghost use Rattle.tk_params.specs.Asked.{asked};
 ghost use Rattle.tk_params.specs.Reader.Lines.{HasTakenLine, IsToldKind};
@@ -12,7 +12,7 @@ use crate::settings::Settings;
 use std::alloc::Global;
 use std::marker::Model;
 
-/// Keys with their values, each once, as the lines of a parameter file give them.
+/// Keys with their values, each once, as in the lines of a parameter file.
 #[derive(Drop)]
 pub struct ParamsBuilder {
     alloc: Global,
@@ -28,7 +28,7 @@ impl Model for ParamsBuilder {
 }
 
 impl ParamsBuilder {
-    /// No key.
+    /// A builder without keys.
     pub fn new(alloc: Global) -> Self
         ensures { result ≡ [] }
     {
@@ -38,10 +38,11 @@ impl ParamsBuilder {
         }
     }
 
-    /// Takes a key with a value, as in a parameter file: within the same limits, and each key once.
+    /// Takes a key with a value, as in a parameter file: within the same limits, and each key only once.
     ///
     /// # Errors
-    /// `RepeatedKey`, `DollarInName` or `BadValue`, as for a line of a parameter file, or `NoMemory`.
+    /// `RepeatedKey`, `DollarInName` or `BadValue`, as for a line of a parameter file, or `NoMemory` if memory runs
+    /// out.
     pub fn set(&mut self, key: Key, value: &[u8]) -> Result<(), ParamKind>
         ensures ok { OnOk result (HasTakenLine self.old self.new (Values.key_means self.old key value.now)) }
         ensures err { IfErr result (IsToldKind (λ k. Values.key_means self.old key value.now ≡ Values.Faulty k)) }
@@ -50,7 +51,7 @@ impl ParamsBuilder {
         take_key(self.alloc, &mut self.settings, key, value)
     }
 
-    /// What the keys ask for, with the defaults of the others; `None` without `ProblemFile`.
+    /// The parameters of these keys, with defaults for the other keys; `None` without `ProblemFile`.
     pub fn build(self) -> Option<Params>
         ensures { result ≡ asked self }
     {

@@ -1,4 +1,4 @@
-//! Keys with what they say, in a map that keeps their order.
+//! Keys with their settings, in a map that preserves their order.
 ghost use Rattle.std.specs.Prelude.{◌≡◌, ◌++◌, ◌∷◌, [], false, OnErr, OnOk, option_map};
 ghost use Rattle.std.specs.String.{string_bytes};
 ghost use Rattle.tk_params.specs.Asked.{file_in, asked_number, switch_in, way_in};
@@ -10,20 +10,20 @@ use crate::value::{Construction, Setting};
 use indexmap::IndexMap;
 use std::alloc::AllocError;
 
-/// What keys say, in the order in which they came.
+/// The settings of keys, in the order in which they were added.
 pub type Entries = IndexMap<Key, Setting>;
 
-/// What a key says.
+/// The setting of a key.
 pub fn stored(entries: &Entries, key: Key) -> Option<&Setting>
     ensures { option_map (λ s. value_is s.now) result ≡ Values.look key (settings_in entries.now) }
 {
     entries.get(&key)
 }
 
-/// Puts what a new key says after the others.
+/// Adds the setting of a new key after the others.
 ///
 /// # Errors
-/// `AllocError` if there is no memory for one more key.
+/// `AllocError` if memory runs out.
 pub fn append(entries: &mut Entries, key: Key, setting: Setting) -> Result<(), AllocError>
     requires { Values.has_key key (settings_in entries.old) ≡ false }
     ensures ok { OnOk result (settings_in entries.new ≡ settings_in entries.old ++ (key, value_is setting) ∷ []) }
@@ -35,7 +35,7 @@ pub fn append(entries: &mut Entries, key: Key, setting: Setting) -> Result<(), A
     }
 }
 
-/// Takes out what a key says.
+/// Removes the setting of a key, and returns it.
 fn take(entries: &mut Entries, key: Key) -> Option<Setting>
     ensures setting { option_map value_is result ≡ Values.look key (settings_in entries.old) }
     ensures others { LosesOnly key (settings_in entries.old) (settings_in entries.new) }
@@ -43,7 +43,7 @@ fn take(entries: &mut Entries, key: Key) -> Option<Setting>
     entries.swap_remove(&key)
 }
 
-/// Takes out the file that a key names.
+/// Removes the file name of a key, and returns it.
 pub fn take_file(entries: &mut Entries, key: Key) -> Option<String>
     ensures file { option_map string_bytes result ≡ file_in (Values.look key (settings_in entries.old)) }
     ensures others { LosesOnly key (settings_in entries.old) (settings_in entries.new) }
@@ -54,7 +54,7 @@ pub fn take_file(entries: &mut Entries, key: Key) -> Option<String>
     }
 }
 
-/// The number of a key.
+/// The number that a key is set to.
 pub fn number(entries: &Entries, key: Key) -> Option<u32>
     ensures { result ≡ asked_number (Values.look key (settings_in entries.now)) }
 {
@@ -64,7 +64,7 @@ pub fn number(entries: &Entries, key: Key) -> Option<u32>
     }
 }
 
-/// The construction that a key names.
+/// The construction that a key is set to.
 pub fn way(entries: &Entries, key: Key) -> Option<Construction>
     ensures { result ≡ way_in (Values.look key (settings_in entries.now)) }
 {
@@ -74,7 +74,7 @@ pub fn way(entries: &Entries, key: Key) -> Option<Construction>
     }
 }
 
-/// Whether a key says yes.
+/// Whether a key is set to yes; `None` if it is not set to yes or no.
 pub fn switch(entries: &Entries, key: Key) -> Option<bool>
     ensures { result ≡ switch_in (Values.look key (settings_in entries.now)) }
 {

@@ -1,22 +1,22 @@
-//! Why a parameter file is refused.
+//! Why a parameter file is rejected.
 use thiserror::Error;
 
-/// What is wrong. The message has the kind's number and name.
+/// The kind of a fault. The message consists of the number and the name of the kind.
 #[derive(Clone, Copy, Debug, PartialEq, Eq, Error)]
 pub enum ParamKind {
-    /// The line has none of the keys.
+    /// The line does not begin with a known key.
     #[error("1 UnknownKey")]
     UnknownKey,
-    /// The key comes a second time.
+    /// The key occurs a second time.
     #[error("2 RepeatedKey")]
     RepeatedKey,
-    /// The key has no such value.
+    /// The key does not allow this value.
     #[error("3 BadValue")]
     BadValue,
-    /// PROBLEM_FILE is not there.
+    /// PROBLEM_FILE is missing.
     #[error("4 MissingProblem")]
     MissingProblem,
-    /// A file name with a `$`.
+    /// A file name contains a `$`.
     #[error("5 DollarInName")]
     DollarInName,
     /// The text, a line or a key is too long.
@@ -25,12 +25,12 @@ pub enum ParamKind {
     /// The source failed.
     #[error("7 Read")]
     Read,
-    /// A growth was refused.
+    /// An allocation failed.
     #[error("8 NoMemory")]
     NoMemory,
 }
 
-/// Where and why a parameter file is refused. Lines count from 1.
+/// Where and why a parameter file is rejected. Lines are counted from 1.
 #[derive(Clone, Copy, Debug, PartialEq, Eq, Error)]
 #[error("{line}: {kind}")]
 pub struct ParamFault {

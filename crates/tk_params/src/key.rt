@@ -5,7 +5,8 @@ ghost use Rattle.tk_params.specs.Keys;
 use std::fmt;
 use tk_words::spelled;
 
-/// A key of a parameter file, with the names of the LKH user guide. Those from `MoveType` on are read and not used.
+/// A key of a parameter file. Keys of LKH have the names of its user guide. Those from `MoveType` on are read but not
+/// used.
 #[derive(Clone, Copy, Debug, PartialEq, Eq, Hash)]
 pub enum Key {
     ProblemFile,
@@ -27,7 +28,7 @@ pub enum Key {
     Optimum,
 }
 
-/// The keys, in the order of the enum.
+/// All keys, in the order of the enum.
 const KEYS: [Key; 17] = [
     Key::ProblemFile,
     Key::TourFile,
@@ -74,7 +75,7 @@ impl Key {
         }
     }
 
-    /// Whether the key's value is a file name.
+    /// Whether the value of the key is a file name.
     pub fn is_file(self) -> bool
         ensures { result ≡ Keys.is_file self }
     {
@@ -85,7 +86,7 @@ impl Key {
     }
 }
 
-/// The key as parameter files write it.
+/// Writes the key as in parameter files.
 impl fmt::Display for Key {
     ghost output = { λ key. Some (Keys.key_word key) };
 

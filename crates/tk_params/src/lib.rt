@@ -1,4 +1,4 @@
-//! Parameter files: their keys, their faults, values, the reader, and what a file asks for.
+//! Parameter files: their keys, values and faults, their reader, and the parameters that they specify.
 #![tactic(auto)]
 
 mod builder;

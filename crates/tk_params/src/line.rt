@@ -1,4 +1,4 @@
-//! A line of a parameter file.
+//! Reads a line of a parameter file.
 ghost use Rattle.std.specs.Prelude.{◌≡◌, ◌≤◌, length, take, drop, OnErr, OnOk, IfErr};
 ghost use Rattle.tk_words.specs.Lex.{behind, front, is_blank, is_word_byte, trim_end};
 ghost use Rattle.tk_params.specs.Reader.Lines.{HasTakenLine, IsToldKind};
@@ -12,10 +12,10 @@ use crate::value::setting_of;
 use std::alloc::Global;
 use tk_words::{blank, letter, spelled, word_byte};
 
-/// The most bytes of a key.
+/// Maximum number of bytes of a key.
 const KEY_LIMIT: usize = 64;
 
-/// How many bytes of a word stand at the front.
+/// The number of bytes of the word at the front of a line.
 fn word_end(line: &[u8]) -> usize
     ensures within { result ≤ length line.now }
     ensures word { take result line.now ≡ front is_word_byte line.now }
@@ -52,7 +52,7 @@ fn trimmed(bytes: &[u8]) -> &[u8]
     &bytes[..end]
 }
 
-/// The value after a key: blanks, at most one equals sign, and the value between blanks.
+/// The value after a key: what follows blanks and at most one equals sign, without outer blanks.
 fn value_behind(bytes: &[u8]) -> &[u8]
     ensures { result.now ≡ Entries.value_behind bytes.now }
 {
@@ -62,7 +62,7 @@ fn value_behind(bytes: &[u8]) -> &[u8]
     }
 }
 
-/// Whether the value is a file name with a `$`.
+/// Whether the value is a file name that contains a `$`.
 fn has_dollar(key: Key, value: &[u8]) -> bool
     ensures { result ≡ Values.has_dollar key value.now }
 {
@@ -72,7 +72,8 @@ fn has_dollar(key: Key, value: &[u8]) -> bool
 /// Takes a key and its value.
 ///
 /// # Errors
-/// `RepeatedKey` for a key that came before, and the faults of `setting_of`.
+/// `RepeatedKey` for a key that has occurred before, `DollarInName` for a file name with a `$`, `NoMemory` if memory
+/// runs out, and the faults of `setting_of`.
 pub fn take_key(
     alloc: Global,
     settings: &mut Settings,
@@ -121,11 +122,11 @@ fn take_words(
     take_key(alloc, settings, key, value_behind(rest))
 }
 
-/// Takes a line that is not the one of EOF, without the blanks at its front.
+/// Takes a line that is not the line of EOF, given without leading blanks.
 ///
 /// # Errors
-/// `TooLong` for a key over 64 bytes, `UnknownKey` for one that is none, `RepeatedKey` for one that came before, and
-/// the faults of `setting_of`.
+/// `TooLong` for a key of more than 64 bytes, `UnknownKey` for a line without a known key, and the faults of
+/// `take_key`.
 #[tactic(auto, unfolding(crate::specs::Entries::entry_of))]
 pub fn take_line(alloc: Global, settings: &mut Settings, line: &[u8]) -> Result<(), ParamKind>
     ensures ok { OnOk result (HasTakenLine settings.old settings.new (Values.line_means settings.old line.now)) }

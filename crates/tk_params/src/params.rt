@@ -1,4 +1,4 @@
-//! What a parameter file asks for.
+//! The parameters that a parameter file specifies.
 ghost use Rattle.std.specs.Prelude.{◌≡◌, ◌≤◌, IfSome, length, option_map};
 ghost use Rattle.tk_problem.specs.declared.limits.TheConstants.{CANDIDATE_LIMIT};
 ghost use Rattle.tk_params.specs.Keys.{all_keys};
@@ -10,8 +10,9 @@ use crate::settings::Settings;
 use crate::value::Construction;
 use std::marker::Model;
 
-/// What a parameter file asks for, with the defaults of the keys that it does not have. Each number is within the
-/// limits of its key, no file name is empty or has a `$`, and there are at most as many ignored keys as keys.
+/// The parameters that a parameter file specifies, with defaults for the keys that it does not have. Numbers are within
+/// the limits of their keys, and file names are not empty and contain no `$`. There are at most as many ignored keys as
+/// keys.
 #[derive(Drop)]
 pub struct Params {
     problem_file: String,
@@ -41,7 +42,7 @@ impl Model for Params {
 }
 
 impl Params {
-    /// What the settings ask for; `None` where they do not name the problem's file.
+    /// The parameters that the settings specify; `None` if they do not name the problem file.
     pub(crate) fn from_settings(settings: Settings) -> Option<Params>
         ensures { result ≡ asked settings }
     {
@@ -63,7 +64,7 @@ impl Params {
         })
     }
 
-    /// The problem's file.
+    /// The problem file.
     pub fn problem_file(&self) -> &str
         ensures value { result.now ≡ self.now.problem_file }
         ensures name { IsFileName result.now }
@@ -71,7 +72,7 @@ impl Params {
         &self.problem_file
     }
 
-    /// The file to which the best tour is written; `None` for none.
+    /// The file to which the best tour is written, if any.
     pub fn tour_file(&self) -> Option<&str>
         ensures value { option_map (λ s. s.now) result ≡ self.now.tour_file }
         ensures name { IfSome result (λ s. IsFileName s.now) }
@@ -79,7 +80,7 @@ impl Params {
         self.tour_file.as_deref()
     }
 
-    /// The file to which the routes are written; `None` for none.
+    /// The file to which the routes are written, if any.
     pub fn solution_file(&self) -> Option<&str>
         ensures value { option_map (λ s. s.now) result ≡ self.now.solution_file }
         ensures name { IfSome result (λ s. IsFileName s.now) }
@@ -87,7 +88,7 @@ impl Params {
         self.solution_file.as_deref()
     }
 
-    /// The file of the tour that each run begins with; `None` where a tour is constructed.
+    /// The file of the tour that each run begins with; `None` if the tour is constructed.
     pub fn initial_tour_file(&self) -> Option<&str>
         ensures value { option_map (λ s. s.now) result ≡ self.now.initial_tour_file }
         ensures name { IfSome result (λ s. IsFileName s.now) }
@@ -95,7 +96,7 @@ impl Params {
         self.initial_tour_file.as_deref()
     }
 
-    /// How many runs there are, 1 to 10,000; 10 by default.
+    /// The number of runs, 1 to 10,000; 10 by default.
     pub fn runs(&self) -> u32
         ensures value { result ≡ self.now.runs }
         ensures limits { IsInLimits 1 10000 result }
@@ -103,7 +104,7 @@ impl Params {
         self.runs
     }
 
-    /// How many trials a run has, 1 to 1,000,000; `None`, the default, stands for as many as there are cities.
+    /// The number of trials per run, 1 to 1,000,000; `None`, the default, means the number of cities.
     pub fn max_trials(&self) -> Option<u32>
         ensures value { result ≡ self.now.max_trials }
         ensures limits { IfSome result (IsInLimits 1 1000000) }
@@ -111,7 +112,7 @@ impl Params {
         self.max_trials
     }
 
-    /// What the random numbers begin with; 1 by default.
+    /// The seed of the random numbers; 1 by default.
     pub fn seed(&self) -> u32
         ensures value { result ≡ self.now.seed }
         ensures limits { IsInLimits 0 4294967295 result }
@@ -119,7 +120,7 @@ impl Params {
         self.seed
     }
 
-    /// How many near cities of each city are tried, 1 to 100; 5 by default.
+    /// The length of the near lists, 1 to 100; 5 by default.
     pub fn max_candidates(&self) -> u32
         ensures value { result ≡ self.now.max_candidates }
         ensures limits { IsInLimits 1 CANDIDATE_LIMIT result }
@@ -127,21 +128,21 @@ impl Params {
         self.max_candidates
     }
 
-    /// How the tour is made that a run begins with; by nearest neighbours by default.
+    /// How starting tours are constructed; by nearest neighbours by default.
     pub fn construction(&self) -> Construction
         ensures { result ≡ self.now.construction }
     {
         self.construction
     }
 
-    /// Whether each trial ends in a local optimum that all cities were tried for; no by default.
+    /// Whether each trial continues until no city has an improving move; no by default.
     pub fn final_sweep(&self) -> bool
         ensures { result ≡ self.now.final_sweep }
     {
         self.final_sweep
     }
 
-    /// The most cities of a segment that is moved, 1 to 3; 3 by default.
+    /// Maximum number of cities in a segment that is moved, 1 to 3; 3 by default.
     pub fn or_segment(&self) -> u32
         ensures value { result ≡ self.now.or_segment }
         ensures limits { IsInLimits 1 3 result }
@@ -149,8 +150,8 @@ impl Params {
         self.or_segment
     }
 
-    /// The keys that were read and are not used, in the order of the file. Each stands there once, so they are at most
-    /// as many as there are keys.
+    /// The keys that were read but are not used, in the order of the file. Each occurs once, so there are at most as
+    /// many as there are keys.
     pub fn ignored(&self) -> &[Key]
         ensures value { result.now ≡ self.now.ignored }
         ensures few { length result.now ≤ length all_keys }

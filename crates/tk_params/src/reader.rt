@@ -1,4 +1,4 @@
-//! Parameter files, read from a source.
+//! Reads parameter files.
 ghost use Rattle.std.specs.Prelude.{◌≡◌, ◌≢◌, ◌≤◌, ◌^◌, ◌++◌, ◌∷◌, ℕ, List, [], true, false, refl, Ok};
 ghost use Rattle.std.specs.Prelude.{OnOk};
 ghost use Rattle.tk_words.specs.Lex.{behind, is_blank, is_word_byte};
@@ -15,14 +15,14 @@ use crate::settings::Settings;
 use std::alloc::{AllocError, Global};
 use tk_words::{Source, Step, TextReader, blank, read_text, spelled, word_byte};
 
-/// The most bytes of a line.
+/// Maximum number of bytes of a line.
 const LINE_LIMIT: u32 = 4096;
 
-/// The most bytes of a text.
+/// Maximum number of bytes of a text.
 const PARAMS_LIMIT: u64 = 1_048_576;
 
-/// What takes the bytes of a parameter file: what its lines said so far, and the bytes of the line at hand after the
-/// blanks at its front.
+/// Reads the bytes of a parameter file. It stores the settings of the lines before the current one, and the bytes of
+/// the current line without leading blanks.
 #[derive(Drop)]
 pub struct ParamReader {
     alloc: Global,
@@ -32,7 +32,7 @@ pub struct ParamReader {
     settings: Settings,
 }
 
-/// Takes a byte after those of a line that are held without the blanks at their front.
+/// Adds a byte to those of a line, which are stored without leading blanks.
 fn hold(held: &mut Vec<u8>, byte: u8) -> Result<(), AllocError>
     ensures { (pre : List ℕ) → held.old.items ≡ behind is_blank pre
         → OnOk result (held.new.items ≡ behind is_blank (pre ++ byte ∷ [])) }
@@ -49,7 +49,7 @@ fn hold(held: &mut Vec<u8>, byte: u8) -> Result<(), AllocError>
 }
 
 impl ParamReader {
-    /// Has taken nothing.
+    /// A reader that has read nothing.
     pub fn new(alloc: Global) -> Self
         ensures { ParamsWait result [] }
     {
@@ -62,7 +62,7 @@ impl ParamReader {
         }
     }
 
-    /// A fault on this line.
+    /// A fault on the current line.
     fn fault(&self, kind: ParamKind) -> ParamFault
         ensures { result ≡ record { line = self.now.line; kind = kind } }
     {
@@ -72,7 +72,7 @@ impl ParamReader {
         }
     }
 
-    /// Takes the line at hand.
+    /// Takes the current line.
     fn take_held(&mut self) -> Result<(), ParamFault>
         ensures { TakesLine self.old self.new result }
     {
@@ -117,7 +117,7 @@ impl ParamReader {
     /// Takes a byte.
     ///
     /// # Errors
-    /// The fault that the bytes up to this one show, with its line.
+    /// The fault that the bytes up to this one contain, with its line.
     fn feed_byte(&mut self, byte: u8) -> Result<Step, ParamFault>
         requires room { self.old.line ≤ 2 ^ 63 }
         requires known { (before : List ℕ) × Feeds self.old before }
@@ -135,7 +135,7 @@ impl ParamReader {
         self.keep(byte)
     }
 
-    /// What the settings ask for, at the end of the text.
+    /// The parameters that the settings specify, at the end of the text.
     fn answer(self) -> Result<Params, ParamFault>
         ensures { result ≡ answer_at_end self.line self.settings }
     {
@@ -197,12 +197,12 @@ impl TextReader for ParamReader {
     }
 }
 
-/// Reads a parameter file: at most 1,048,576 bytes, in lines of at most 4,096; as far as it takes to know the answer.
+/// Reads a parameter file of at most 1,048,576 bytes, in lines of at most 4,096, no further than its result requires.
 ///
-/// What it answers is what every text says that begins with the bytes that it read, but for `Read` and `NoMemory`.
+/// Every text that begins with the bytes read has this result, except for `Read` and `NoMemory`.
 ///
 /// # Errors
-/// The first fault of the text by line; `Read` where the source fails; `NoMemory` where a growth is refused.
+/// The first fault of the text, with its line; `Read` if the source fails, and `NoMemory` if memory runs out.
 pub fn read_params<R: Source>(alloc: Global, source: &mut R) -> Result<Params, ParamFault>
     ensures reads { IsReading R.Source params_texts (λ params. params) source.old source.new result }
 {

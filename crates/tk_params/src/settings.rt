@@ -1,4 +1,4 @@
-//! What the lines of a parameter file have said so far.
+//! The settings of the lines of a parameter file that have been read.
 ghost use Rattle.std.specs.Prelude.{◌≡◌, ◌++◌, ◌∷◌, [], false, OnErr, OnOk, is_some};
 ghost use Rattle.tk_params.specs.Asked.{HasEachKeyOnce, AreSettings, IsSetting, file_in, ignored_keys};
 ghost use Rattle.tk_params.specs.Reader.Stored.{settings_in, value_is};
@@ -11,7 +11,7 @@ use indexmap::IndexMap;
 use std::alloc::{AllocError, Global};
 use std::marker::Model;
 
-/// Keys with what they say, each once, in the order of the file.
+/// Keys with their settings, each once, in the order of the file.
 #[derive(Drop)]
 pub struct Settings {
     entries: Entries,
@@ -30,7 +30,7 @@ impl Model for Settings {
 }
 
 impl Settings {
-    /// No key.
+    /// No key is set.
     pub fn new(alloc: Global) -> Self
         ensures { result ≡ [] }
     {
@@ -40,24 +40,24 @@ impl Settings {
         }
     }
 
-    /// Whether the key is there.
+    /// Whether the key is set.
     pub fn has(&self, key: Key) -> bool
         ensures { result ≡ Values.has_key key self.now }
     {
         stored(&self.entries, key).is_some()
     }
 
-    /// Whether the key names a file.
+    /// Whether the key is set to a file name.
     pub fn names(&self, key: Key) -> bool
         ensures { result ≡ is_some (file_in (Values.look key self.now)) }
     {
         matches!(stored(&self.entries, key), Some(Setting::File(_)))
     }
 
-    /// Keeps what a new key says.
+    /// Stores the setting of a new key.
     ///
     /// # Errors
-    /// `AllocError` if there is no memory for one more key.
+    /// `AllocError` if memory runs out.
     pub fn set(&mut self, key: Key, setting: Setting) -> Result<(), AllocError>
         requires fresh { Values.has_key key self.old ≡ false }
         requires limits { IsSetting key (value_is setting) }
@@ -78,7 +78,7 @@ impl Settings {
         }
     }
 
-    /// The keys with what they say, and those of them that are not used.
+    /// The keys with their settings, and those of the keys that are not used.
     pub fn into_parts(self) -> (Entries, Vec<Key>)
         ensures settings { settings_in result.0 ≡ self }
         ensures ignored { result.1.items ≡ ignored_keys self }

@@ -1,4 +1,4 @@
-//! The values of a parameter file's keys.
+//! The values of the keys of parameter files.
 ghost use Rattle.std.specs.Prelude.{◌≡◌, false, Some, None, IfOk, IfErr, option_map};
 ghost use Rattle.tk_params.specs.Keys;
 ghost use Rattle.tk_params.specs.declared.fault.ParamKind.TheVariants as kinds;
@@ -13,7 +13,7 @@ use std::alloc::Global;
 use tk_problem::CANDIDATE_LIMIT;
 use tk_words::{integer, spelled};
 
-/// How the tour is made that a run begins with.
+/// How starting tours are constructed.
 #[derive(Clone, Copy, Debug, PartialEq, Eq)]
 pub enum Construction {
     /// By nearest neighbours.
@@ -22,7 +22,7 @@ pub enum Construction {
     Savings,
 }
 
-/// What a key says.
+/// The setting of a key.
 #[derive(Debug, Drop)]
 pub enum Setting {
     File(String),
@@ -33,7 +33,7 @@ pub enum Setting {
 }
 
 impl Setting {
-    /// Whether the key is read and not used.
+    /// Whether the key is read but not used.
     pub fn is_ignored(&self) -> bool
         ensures { result ≡ is_ignored (value_is self.now) }
     {
@@ -44,7 +44,7 @@ impl Setting {
     }
 }
 
-/// The value as an integer within limits, with nothing after it.
+/// The value as an integer within limits, if it is one.
 fn number_of(value: &[u8], low: u32, high: u32) -> Option<u32>
     ensures { result ≡ Values.number_within low high value.now }
 {
@@ -55,7 +55,7 @@ fn number_of(value: &[u8], low: u32, high: u32) -> Option<u32>
     Some(number)
 }
 
-/// The construction that the value spells.
+/// The construction that the value spells, if it does.
 fn construction_of(value: &[u8]) -> Option<Construction>
     ensures { result ≡ Values.construction_of value.now }
 {
@@ -68,7 +68,7 @@ fn construction_of(value: &[u8]) -> Option<Construction>
     None
 }
 
-/// Whether the value says yes or no.
+/// Whether the value spells yes or no; `None` if it spells neither.
 fn switch_of(value: &[u8]) -> Option<bool>
     ensures { result ≡ Values.switch_of value.now }
 {
@@ -98,14 +98,14 @@ fn file_of(alloc: Global, value: &[u8]) -> Result<Setting, ParamKind>
     }
 }
 
-/// A number within limits.
+/// The setting of a number within limits.
 fn numeric(value: &[u8], low: u32, high: u32) -> Option<Setting>
     ensures { option_map value_is result ≡ option_map Values.Number (Values.number_within low high value.now) }
 {
     Some(Setting::Number(number_of(value, low, high)?))
 }
 
-/// What a key says that is no file.
+/// The setting of a key whose value is not a file name.
 fn plain_of(key: Key, value: &[u8]) -> Option<Setting>
     requires { Keys.is_file key ≡ false }
     ensures { option_map value_is result ≡ Values.setting_value key value.now }
@@ -122,11 +122,10 @@ fn plain_of(key: Key, value: &[u8]) -> Option<Setting>
     }
 }
 
-/// What a key says with this value.
+/// The setting of a key with this value.
 ///
 /// # Errors
-/// `BadValue` if the key has no such value, `DollarInName` for a file name with a `$`, and `NoMemory` if there is no
-/// memory for a name.
+/// `BadValue` if the key does not allow this value, and `NoMemory` if memory runs out.
 pub fn setting_of(alloc: Global, key: Key, value: &[u8]) -> Result<Setting, ParamKind>
     ensures ok { IfOk result (λ s. Values.setting_value key value.now ≡ Some (value_is s)) }
     ensures err { IfErr result (IsToldKind (λ k. (k ≡ kinds.BadValue) × (Values.setting_value key value.now ≡ None))) }

@@ -1,4 +1,4 @@
--- A parameter reader's place in a text.
+-- The state of a reader of parameters within a text.
 use Rattle.std.specs.Prelude.{◌≡◌, ◌≤◌, ℕ, Bool, false, not, ◌&&◌, List, [], ◌++◌, length, Option, None, Result, Ok}
 use Rattle.std.specs.Prelude.{Err}
 use Rattle.std.specs.Prelude.{unwrap_or}
@@ -18,11 +18,11 @@ use Rattle.tk_params.specs.Params.{line_limit, spells_eof, word_of, behind_word,
 use Rattle.tk_params.specs.Params.{params_decided}
 use Rattle.tk_params.specs.Params.{params_texts}
 
--- EOF stands at the front, and something after it
+-- whether the bytes of a line are EOF, followed by something
 abbrev pub ends_in : List ℕ → Bool
 ends_in pre = spells_eof (word_of pre) && not (is_empty (behind_word pre))
 
--- what bytes say that go on after these settings, on line n, of which `pre` stands before them
+-- the answer to the bytes that come after these settings and, on line n, after the bytes `pre`
 unfoldable pub params_from_line : ℕ → Settings → List ℕ → Bool → List ℕ → Option (Result ParamsAre ParamFault)
 params_from_line n before pre ended bs = judge_params n before (param_pieces (prepend pre (lines ended n bs)))
 
@@ -37,24 +37,24 @@ pub record Feeds (s : ParamReader) (bs : List ℕ) : Type 0 where
   pub same : (ended : Bool) (more : List ℕ) →
       params_decided ended (bs ++ more) ≡ params_from_line s.line s.settings pre ended more
 
--- the reader has taken these bytes, which decide nothing
+-- the reader has taken these bytes, which do not decide the answer
 pub record ParamsWait (s : ParamReader) (bs : List ℕ) : Type 0 where
   pub fed : Feeds s bs
   pub undecided : params_decided false bs ≡ None
 
--- what a reader holds whose settings name the problem's file
+-- the parameters of a reader whose settings name the problem file
 abbrev pub params_in : ParamReader → ParamsAre
 params_in s = asked_of (unwrap_or (file_in (look keys.ProblemFile s.settings)) []) s.settings
 
 abbrev pub NamesProblem : ParamReader → Type 0
 NamesProblem s = IsSome (asked s.settings)
 
--- the line at hand is taken
+-- the current line has been taken
 pub record IsLineTaken (old new : ParamReader) : Type 0 where
   pub taken : HasTakenLine old.settings new.settings (line_means old.settings old.held.items)
   pub line : new.line ≡ old.line
 
--- the line at hand has a fault, if memory lasts
+-- the current line has a fault, unless memory ran out
 pub record IsStopped (old : ParamReader) (f : ParamFault) : Type 0 where
   pub line : f.line ≡ old.line
   pub told : IsToldKind (λ k. line_means old.settings old.held.items ≡ Faulty k) f.kind
@@ -63,7 +63,7 @@ abbrev pub TakesLine : ParamReader → ParamReader → Result (Unit {0}) ParamFa
 TakesLine old new (Ok _) = IsLineTaken old new
 TakesLine old new (Err f) = IsStopped old f
 
--- bytes are taken; or they make the text whole; or they show a fault
+-- bytes are taken; or they complete the text; or they have a fault
 abbrev pub HasReadByte : ParamReader → List ℕ → Result Step ParamFault → Type 0
 HasReadByte new bs (Ok (Taken n)) = (n ≡ 1) × Feeds new bs
 HasReadByte new bs (Ok Done) = Decides params_texts bs (Ok (params_in new)) × NamesProblem new

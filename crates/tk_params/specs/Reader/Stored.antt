@@ -9,7 +9,7 @@ use Rattle.tk_params.specs.declared.params.Params.TheInside.{Inside as Fields}
 use Rattle.tk_params.specs.Asked.{HasEachKeyOnce, AreSettings, ParamsAre, ignored_keys}
 use Rattle.tk_params.specs.Values.{Value, File, Number, Way, Switch, Ignored, Settings, look, same_key}
 
--- what a stored setting says
+-- the value of a stored setting
 abbrev pub value_is : Setting → Value
 value_is (stored.File name) = File (string_bytes name)
 value_is (stored.Number n) = Number n
@@ -20,21 +20,22 @@ value_is stored.Ignored = Ignored
 abbrev pub entry_is : Key × Setting → Key × Value
 entry_is e = (e.0, value_is e.1)
 
--- the settings that a map holds
+-- the settings in a map
 abbrev pub settings_in : {S : Type 0} → IndexMap Key Setting S → Settings
 settings_in entries = map entry_is entries.entries
 
--- the other keys say what they said
+-- the values of the other keys do not change
 abbrev pub LosesOnly : Key → Settings → Settings → Type 0
 LosesOnly key old new = (other : Key) → same_key key other ≡ false → look other new ≡ look other old
 
--- stored settings have their limits and each key at most once, and the keys that are not used stand beside them
+-- stored settings are within their limits and have each key at most once; the keys that are not used are listed with
+-- them
 pub record AreStored (settings : Settings) (unused : List Key) : Type 0 where
   pub limits : AreSettings settings
   pub apart : HasEachKeyOnce settings
   pub ignored : unused ≡ ignored_keys settings
 
--- the parameters that the fields hold
+-- the parameters in the fields
 abbrev pub params_in : Fields → ParamsAre
 params_in p =
     record {
