@@ -1,28 +1,29 @@
 -- The colours of closed lines.
---     colour k      that of the closed line with this number, from 1
+--     colour k      the colour of the closed line with this number, counted from 1
 use Rattle.std.specs.Prelude.{ℕ, ◌-◌, ◌*◌, ◌%◌, nat_lt, List, [], ◌∷◌, ◌++◌, slice_index_or, min, codes, decimal}
 use Rattle.std.specs.Prelude.{if◌then◌else◌}
 use Rattle.tk_picture.specs.declared.colour.Colour.{Colour}
 
--- seven colours that people with any colour vision can tell apart (M. Okabe and K. Ito)
+-- seven colours that people with any colour vision can distinguish (M. Okabe and K. Ito)
 abbrev pub first_colours : List (List ℕ)
 first_colours = codes "#0072B2" ∷ codes "#D55E00" ∷ codes "#009E73" ∷ codes "#CC79A7" ∷ codes "#E69F00"
     ∷ codes "#56B4E9" ∷ codes "#000000" ∷ []
 
--- along three edges of a box of colours that are all dark enough for white paper, which is 190 red, 140 green and
--- 250 blue: from red on, green comes, red goes, blue comes
+-- along three edges of a box of colours, which is 190 red, 140 green and 250 blue, so that all are dark enough for
+-- white paper: beginning with red, green is added, red is removed, and blue is added
 abbrev pub there : ℕ → Colour
 there p = record { red = 190 - (p - 140); green = min p 140; blue = p - 330 }
 
--- the opposite place in the box
+-- the opposite point of the box
 abbrev pub opposite : Colour → Colour
 opposite c = record { red = 190 - c.red; green = 140 - c.green; blue = 250 - c.blue }
 
--- there, and along the opposite edges back: 1,160 steps in all
+-- along these edges, and back along the opposite ones: 1,160 steps in all
 abbrev pub colour_walk : ℕ → Colour
 colour_walk p = if nat_lt p 580 then there p else opposite (there (p - 580))
 
--- after the first seven, each line is 443 steps further, close to the golden section, so that neighbours differ
+-- after the first seven, each line is 443 steps after the one before, close to the golden section, so that neighbours
+-- differ
 abbrev pub place_on_walk : ℕ → ℕ
 place_on_walk k = k % 1160 * 443 % 1160
 

@@ -1,13 +1,14 @@
--- What a picture shows.
---     Drawing      the cities alone, a tour, or routes
---     each_filled f k routes      what f makes of each route that holds a customer
+-- The contents of a picture.
+--     Drawing      only the cities, a tour, or routes
+--     each_filled f k routes      the results of f for the routes that have a customer
 --     paths_of drawing      its closed lines, each with its number
---     caption_of n drawing      what its title says of it
+--     caption_of n drawing      its description in the title
 use Rattle.std.specs.Prelude.{ℕ, ◌+◌, List, [], ◌∷◌, ◌++◌, codes, decimal}
 use Rattle.tk_routes.specs.Instance.{Instance}
 use Rattle.tk_routes.specs.Routes.{route_nodes}
 
--- the cities alone; a tour of this length; routes of an instance, of which this many hold a customer, at this cost
+-- only the cities; a tour of this length; routes of an instance, with the number of those that have a customer, and
+-- their cost
 pub data Drawing : Type 0 where
   Cities : Drawing
   ATour : (cities : List ℕ) (length : ℕ) → Drawing
@@ -18,7 +19,8 @@ pub record Path : Type 0 where
   pub number : ℕ
   pub cities : List ℕ
 
--- what each route that holds a customer gives, by its number and its customers; one that holds none has a number too
+-- the results of f for the routes that have a customer, given their numbers and customers; the other routes are counted
+-- too
 abbrev pub each_filled : {X : Type 0} → (ℕ → List ℕ → X) → ℕ → List (List ℕ) → List X
 each_filled f k [] = []
 each_filled f k ([] ∷ routes) = each_filled f (k + 1) routes

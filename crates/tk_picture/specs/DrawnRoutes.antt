@@ -1,7 +1,7 @@
--- What is asked of the routes of a problem that are drawn.
---     AreCustomers cvrp route      customers of the problem
---     ServeOnce cvrp routes      so are all on these routes, and none stands twice
---     RoutesFit n cvrp routes      the same, of a problem with n nodes
+-- Requirements for the routes of a problem that are drawn.
+--     AreCustomers cvrp route      the route contains only customers of the problem
+--     ServeOnce cvrp routes      so do all routes, and no customer occurs twice
+--     RoutesFit n cvrp routes      like ServeOnce, for a problem with n nodes
 use Rattle.std.specs.Prelude.{◌≡◌, ℕ, List, All, Vec, map}
 use Rattle.std.specs.List.{concat}
 use Rattle.std.specs.declared.alloc.Global.{Global}

@@ -1,19 +1,19 @@
--- A name as it can stand in a text of XML or HTML.
---     shown_byte c      a character of it
---     shown_name name      the whole: what is no UTF-8 is shown as U+FFFD
---     IsNoMarkup b      what each byte of it is
+-- Names in XML and HTML texts.
+--     shown_byte c      a character of a name
+--     shown_name name      the whole name; bytes that are not UTF-8 are shown as U+FFFD
+--     IsNoMarkup b      a property of each byte of a name that is shown
 use Rattle.std.specs.Prelude.{ℕ, ◌≢◌, ◌==◌, Bool, ◌&&◌, ◌||◌, nat_lt, List, codes, flat_map, if◌then◌else◌}
 use Rattle.std.specs.Char.{encode_utf8}
 use Rattle.std.specs.Str.{chars}
 use Rattle.std.specs.Str.Lossy.{utf8_lossy}
 
--- neither a control character, nor one that turns the direction of what comes after it (U+202A to U+202E, U+2066 to
--- U+2069), nor U+FFFE or U+FFFF, which XML does not take
+-- not a control character, not a bidirectional control (U+202A to U+202E, U+2066 to U+2069), and not U+FFFE or U+FFFF,
+-- which XML does not allow
 abbrev pub is_plain : ℕ → Bool
 is_plain c = (nat_lt 31 c && nat_lt c 127) || (nat_lt 159 c && nat_lt c 8234) || (nat_lt 8238 c && nat_lt c 8294)
     || (nat_lt 8297 c && nat_lt c 65534) || nat_lt 65535 c
 
--- a character that is none of the four of markup
+-- a character that is not one of the four of markup
 abbrev pub shown_unmarked : ℕ → List ℕ
 shown_unmarked c = if is_plain c then encode_utf8 c else codes "?"
 
@@ -26,6 +26,6 @@ shown_byte c =
 abbrev pub shown_name : List ℕ → List ℕ
 shown_name name = flat_map shown_byte (chars (utf8_lossy name))
 
--- a byte that neither begins nor ends a tag, and does not end an attribute
+-- a byte that does not begin or end a tag, and does not end an attribute
 abbrev pub IsNoMarkup : ℕ → Type 0
 IsNoMarkup b = (b ≢ 60) × (b ≢ 62) × (b ≢ 34)

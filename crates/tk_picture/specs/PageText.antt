@@ -1,8 +1,8 @@
--- The text of a page (HTML) with a picture. A reader without JavaScript sees the picture and the table; the script
--- reads the lines on cities and on paths.
+-- The text of an HTML page with a picture. A reader without JavaScript sees the picture and the table; the script reads
+-- the lines with cities and paths.
 --     city_line f places demands depot c      a city
 --     path_line path      the cities of a closed line
---     route_row i k route      what the table says of a route
+--     route_row i k route      the table row of a route
 --     page_text parts f places name drawing depot demands      the whole text
 use Rattle.std.specs.Prelude.{ℕ, ◌-◌, ◌*◌, ◌/◌, ◌==◌, List, [], ◌++◌, Option, Some, None, length, slice_get, flat_map}
 use Rattle.std.specs.Prelude.{codes, decimal, if◌then◌else◌}
@@ -24,7 +24,7 @@ use Rattle.tk_picture.specs.PictureText.{picture_text, spot, title, title_line}
 abbrev pub heading : List ℕ → List ℕ
 heading name = line (codes "<h1><bdi>" ++ shown_name name ++ codes "</bdi></h1>")
 
--- in the words of the checks
+-- the caption of the picture, which has the words of the checks
 abbrev pub verdict : ℕ → Drawing → List ℕ
 verdict n drawing = line (codes "<p id=\"verdict\">" ++ caption_of n drawing ++ codes "</p>")
 
@@ -35,8 +35,8 @@ opening parts name n drawing =
 
 -- ---- the table of routes
 
--- what a row says of a route: its number, how many customers it has, its load, that as a percentage of the capacity,
--- rounded down, and its length
+-- the table row of a route: its number, the number of its customers, its load, the load as a percentage of the
+-- capacity, rounded down, and its length
 pub record Row : Type 0 where
   pub number : ℕ
   pub customers : ℕ
@@ -44,7 +44,7 @@ pub record Row : Type 0 where
   pub share : ℕ
   pub length : ℕ
 
--- a vehicle that holds nothing has no share
+-- the load as a percentage of the capacity, rounded down; 0 if the capacity is 0
 abbrev pub share : ℕ → ℕ → ℕ
 share load capacity = if capacity == 0 then 0 else load * 100 / capacity
 
@@ -62,7 +62,7 @@ row_line r =
     line (codes "<tr><th scope=\"row\">" ++ decimal r.number ++ codes "<td>" ++ decimal r.customers
     ++ codes "<td>" ++ decimal r.load ++ codes "<td>" ++ decimal r.share ++ codes "<td>" ++ decimal r.length)
 
--- the routes that hold a customer, numbered from k on
+-- the rows of the routes that have a customer, which are numbered from k on
 abbrev pub rows : Instance → ℕ → List (List ℕ) → List Row
 rows i k routes = each_filled (route_row i) k routes
 
@@ -86,7 +86,7 @@ table _ = []
 
 -- ---- the cities and the paths
 
--- the demand of a city, where there are demands
+-- the demand of a city, if there are demands
 abbrev pub demand_word : Option ℕ → List ℕ
 demand_word None = []
 demand_word (Some demand) = codes " " ++ decimal demand
@@ -95,11 +95,11 @@ abbrev pub depot_word : Option ℕ → ℕ → List ℕ
 depot_word None c = []
 depot_word (Some depot) c = if depot == c then codes " depot" else []
 
--- in units of 10^-9
+-- the coordinates of a city, in units of 10^-9
 abbrev pub coordinates : List Point → ℕ → List ℕ
 coordinates places c = signed_decimal (city_place places c).x ++ codes " " ++ signed_decimal (city_place places c).y
 
--- where a city stands in the picture, its coordinates, its demand, and whether it is the depot
+-- the position of a city in the picture, its coordinates, its demand, and whether it is the depot
 abbrev pub city_line : Frame → List Point → List ℕ → Option ℕ → ℕ → List ℕ
 city_line f places demands depot c =
     line (spot f places c ++ codes " " ++ coordinates places c ++ demand_word (slice_get demands (c - 1))

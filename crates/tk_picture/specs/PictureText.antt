@@ -1,5 +1,5 @@
 -- The text of a picture (SVG 1.1). Within its group, a unit is a ten-thousandth of the frame's longer side.
---     spot f places city      where a city stands
+--     spot f places city      the position of a city
 --     closed_line spot path      a closed line through cities, in the colour of its number
 --     dots spot style cities      cities as points
 --     route_numbers spot n drawing      the number of each route, over its first customer
@@ -19,16 +19,16 @@ use Rattle.tk_picture.specs.Names.{shown_name}
 abbrev pub title : List ℕ → ℕ → Drawing → List ℕ
 title name n drawing = shown_name name ++ codes ": " ++ caption_of n drawing
 
--- where a city stands
+-- the position of a city
 abbrev pub spot : Frame → List Point → ℕ → List ℕ
 spot f places city =
     decimal (across f (city_place places city)) ++ codes "," ++ decimal (down f (city_place places city))
 
--- from 2,000 cities on, lines are thin, and points and numbers small
+-- fewer than 2,000 cities; with more, lines are thinner, and points and numbers are smaller
 abbrev pub is_small : ℕ → Bool
 is_small n = nat_lt n 2000
 
--- the first of two texts below that, else the second
+-- the first of two texts for a small picture, otherwise the second
 abbrev pub by_size : ℕ → List ℕ → List ℕ → List ℕ
 by_size n few many = if is_small n then few else many
 
@@ -57,7 +57,7 @@ dots spot style cities =
 abbrev pub city_style : ℕ → List ℕ
 city_style n = by_size n (codes "stroke-width=\"60\"") (codes "stroke-width=\"12\"")
 
--- where there are many cities, there are points only if nothing else is drawn
+-- many cities are shown as points only if nothing else is drawn
 abbrev pub has_dots : Drawing → ℕ → Bool
 has_dots Cities n = true
 has_dots _ n = is_small n
@@ -73,13 +73,13 @@ depot_mark spot (Some depot) =
 
 -- ---- numbers
 
--- a number at a place
+-- a number at a position
 abbrev pub mark : ℕ → List ℕ → List ℕ
 mark k at =
     line (codes "<text transform=\"translate(" ++ at ++ codes ")\" dy=\"-.4em\" fill=\"" ++ colour k ++ codes "\">"
     ++ decimal k ++ codes "</text>")
 
--- the number of a route, over its first customer, which is the second of its stops
+-- the number of a route, over its first customer, which is the second city of its path
 abbrev pub number_mark : (ℕ → List ℕ) → Path → List ℕ
 number_mark spot path = mark path.number (spot (slice_index path.cities 1))
 

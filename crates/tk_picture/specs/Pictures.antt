@@ -1,4 +1,4 @@
--- What a picture shows, and its text.
+-- A picture and its text, as contracts see them.
 use Rattle.std.specs.Prelude.{ℕ, List, Option, map}
 use Rattle.tk_problem.specs.declared.point.Point.{Point}
 use Rattle.tk_problem.specs.PlacesOf.{places_of}
@@ -22,13 +22,13 @@ drawing_of (subjects.Tour cities length) = ATour cities.now length
 drawing_of (subjects.Routes cvrp routes count cost) =
     SomeRoutes (instance_of cvrp) (map (λ r. r.items) routes.now) count cost
 
--- a tour of the cities 1 to n, or routes of as many nodes, on which no customer stands twice
+-- a tour of the cities 1 to n, or routes of a problem with n nodes, on which no customer occurs twice
 abbrev pub Fits : ℕ → Subject → Type 0
 Fits n subjects.Cities = Unit {0}
 Fits n (subjects.Tour cities length) = IsTour n cities.now
 Fits n (subjects.Routes cvrp routes count cost) = RoutesFit n cvrp routes.now
 
--- the text of what is drawn, in a form
+-- the text of a drawing, in a format
 abbrev pub form_text : Form → Frame → List Point → List ℕ → Drawing → Option ℕ → List ℕ → List ℕ
 form_text forms.Svg f places name drawing depot demands = picture_text f places name drawing depot
 form_text (forms.Page parts) f places name drawing depot demands = page_text parts f places name drawing depot demands

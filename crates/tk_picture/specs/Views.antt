@@ -1,4 +1,4 @@
--- What callers see of a view.
+-- A view, as its callers see it.
 use Rattle.std.specs.Prelude.{ℕ, List, length}
 use Rattle.tk_problem.specs.PlacesOf.{places_of}
 use Rattle.tk_picture.specs.declared.view.View.{View}
@@ -7,6 +7,6 @@ use Rattle.tk_picture.specs.PictureText.{spot}
 abbrev pub city_count : View → ℕ
 city_count v = length (places_of v.places)
 
--- where a city stands
+-- the position of a city
 abbrev pub spot_in : View → ℕ → List ℕ
 spot_in v = spot v.frame (places_of v.places)

@@ -11,7 +11,7 @@ use crate::picture::Picture;
 use crate::subject::Subject;
 use tk_writers::{Pen, Sink};
 
-/// Puts how many cities there are.
+/// Writes the number of cities.
 fn put_cities<W: Sink>(pen: &mut Pen<'_, W>, cities: u32)
     ensures { Puts W.Sink pen.old pen.new (decimal cities ++ codes " cities") }
 {
@@ -19,7 +19,7 @@ fn put_cities<W: Sink>(pen: &mut Pen<'_, W>, cities: u32)
     pen.put(b" cities");
 }
 
-/// Puts how long a tour is.
+/// Writes the number of cities of a tour, and its length.
 fn put_tour<W: Sink>(pen: &mut Pen<'_, W>, cities: u32, length: u64)
     ensures { Puts W.Sink pen.old pen.new
         (codes "tour of " ++ decimal cities ++ codes " cities, length " ++ decimal length) }
@@ -30,7 +30,7 @@ fn put_tour<W: Sink>(pen: &mut Pen<'_, W>, cities: u32, length: u64)
     pen.put_number(length);
 }
 
-/// Puts what routes cost.
+/// Writes the number of routes, and their cost.
 fn put_routes<W: Sink>(pen: &mut Pen<'_, W>, count: u64, cost: u64)
     ensures { Puts W.Sink pen.old pen.new (decimal count ++ codes " routes, cost " ++ decimal cost) }
 {
@@ -39,7 +39,7 @@ fn put_routes<W: Sink>(pen: &mut Pen<'_, W>, count: u64, cost: u64)
     pen.put_number(cost);
 }
 
-/// Puts what a picture shows.
+/// Writes the caption of a picture.
 pub(crate) fn put_caption<W: Sink>(pen: &mut Pen<'_, W>, picture: &Picture<'_>)
     ensures { Puts W.Sink pen.old pen.new
         (caption_of (city_count picture.now.view) (drawing_of picture.now.subject)) }
@@ -52,7 +52,7 @@ pub(crate) fn put_caption<W: Sink>(pen: &mut Pen<'_, W>, picture: &Picture<'_>)
     }
 }
 
-/// Puts the title of a picture.
+/// Writes the title of a picture: its name and its caption.
 pub(crate) fn put_title<W: Sink>(pen: &mut Pen<'_, W>, picture: &Picture<'_>)
     ensures { Puts W.Sink pen.old pen.new
         (title picture.now.name.now (city_count picture.now.view) (drawing_of picture.now.subject)) }

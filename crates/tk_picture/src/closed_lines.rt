@@ -1,4 +1,4 @@
-//! Closed lines through cities.
+//! Draws closed lines through cities.
 ghost use Rattle.std.specs.Prelude.{◌≡◌, ◌≤◌, [], ◌∷◌, All, flat_map, map};
 ghost use Rattle.tk_writers.specs.Pens.{Puts};
 ghost use Rattle.tk_distance.specs.Cities.{IsCity};
@@ -13,7 +13,7 @@ use crate::view::View;
 use tk_routes::Cvrp;
 use tk_writers::{Pen, Sink};
 
-/// Puts the beginning of the closed line with a number, from 1.
+/// Writes the beginning of the closed line with this number, counted from 1.
 fn put_line_start<W: Sink>(pen: &mut Pen<'_, W>, number: u64)
     requires { 1 ≤ number }
     ensures { Puts W.Sink pen.old pen.new (line_start number) }
@@ -23,7 +23,7 @@ fn put_line_start<W: Sink>(pen: &mut Pen<'_, W>, number: u64)
     pen.put(b"\" points=\"\n");
 }
 
-/// Puts the closed line through cities.
+/// Writes the closed line through these cities.
 pub(crate) fn put_tour<W: Sink>(pen: &mut Pen<'_, W>, view: &View<'_>, cities: &[u32])
     requires { All (IsCity (city_count view.now)) cities.now }
     ensures { Puts W.Sink pen.old pen.new
@@ -34,7 +34,7 @@ pub(crate) fn put_tour<W: Sink>(pen: &mut Pen<'_, W>, view: &View<'_>, cities: &
     pen.put(b"\"/>\n");
 }
 
-/// Puts the closed line through the depot and the customers of a route, if it holds one.
+/// Writes the closed line through the depot and the customers of a route, if it has a customer.
 fn put_route<W: Sink>(
     pen: &mut Pen<'_, W>,
     view: &View<'_>,
@@ -56,7 +56,7 @@ fn put_route<W: Sink>(
     pen.put(b"\"/>\n");
 }
 
-/// Puts the closed lines of the routes that hold a customer.
+/// Writes the closed lines of the routes that have a customer.
 pub(crate) fn put_routes<W: Sink>(
     pen: &mut Pen<'_, W>,
     view: &View<'_>,

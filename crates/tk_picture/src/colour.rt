@@ -5,13 +5,13 @@ ghost use Rattle.tk_picture.specs.Colours.{colour, opposite, rgb, there, colour_
 
 use tk_writers::{Pen, Sink};
 
-/// How many steps a walk along six edges of the box of colours has.
+/// Number of steps of the walk along six edges of the box of colours.
 const STEPS: u64 = 1_160;
 
-/// How many steps further the colour of each line is than that of the line before.
+/// Number of steps from the colour of each line to that of the next.
 const STEP: u64 = 443;
 
-/// A colour: how much there is of red, green and blue.
+/// A colour: its amounts of red, green and blue.
 #[derive(Clone, Copy)]
 pub struct Colour {
     pub red: u64,
@@ -19,7 +19,7 @@ pub struct Colour {
     pub blue: u64,
 }
 
-/// The colour after some steps from red, along three edges of the box.
+/// The colour after this many steps from red, along three edges of the box.
 fn there(steps: u64) -> Colour
     ensures { result ≡ there steps }
 {
@@ -30,7 +30,7 @@ fn there(steps: u64) -> Colour
     }
 }
 
-/// The colour in the opposite place of the box.
+/// The colour at the opposite point of the box.
 fn opposite(colour: Colour) -> Colour
     ensures { result ≡ opposite colour }
 {
@@ -41,7 +41,7 @@ fn opposite(colour: Colour) -> Colour
     }
 }
 
-/// The colour after some steps of the walk.
+/// The colour after this many steps of the walk.
 fn walk(steps: u64) -> Colour
     ensures { result ≡ colour_walk steps }
 {
@@ -51,7 +51,7 @@ fn walk(steps: u64) -> Colour
     }
 }
 
-/// Puts a colour by its parts.
+/// Writes a colour, given its components.
 fn put_rgb<W: Sink>(pen: &mut Pen<'_, W>, colour: Colour)
     ensures { Puts W.Sink pen.old pen.new (rgb colour) }
 {
@@ -64,7 +64,7 @@ fn put_rgb<W: Sink>(pen: &mut Pen<'_, W>, colour: Colour)
     pen.put(b")");
 }
 
-/// Puts the colour of the line with a number, from 1.
+/// Writes the colour of the line with this number, counted from 1.
 pub(crate) fn put_colour<W: Sink>(pen: &mut Pen<'_, W>, number: u64)
     requires { 1 ≤ number }
     ensures { Puts W.Sink pen.old pen.new (colour number) }

@@ -1,4 +1,4 @@
-//! Cities as points.
+//! Draws cities as points.
 ghost use Rattle.std.specs.Prelude.{◌≡◌, ◌++◌, Some, IfSome, codes};
 ghost use Rattle.std.specs.List.{range_with_len};
 ghost use Rattle.tk_writers.specs.Pens.{Puts};
@@ -12,17 +12,17 @@ use crate::subject::Subject;
 use crate::view::View;
 use tk_writers::{Pen, Sink};
 
-/// From this many cities on, lines and points are thin.
+/// In pictures of at least this many cities, lines and points are thin.
 const MANY: u32 = 2_000;
 
-/// The first of two texts for a picture of fewer than `MANY` cities, else the second.
+/// The first of two texts for a picture of fewer than `MANY` cities, otherwise the second.
 pub(crate) fn by_size<'a>(cities: u32, few: &'a [u8], many: &'a [u8]) -> &'a [u8]
     ensures { result.now ≡ by_size cities few.now many.now }
 {
     if cities < MANY { few } else { many }
 }
 
-/// Puts a city as a point.
+/// Writes a city as a point.
 fn put_dot<W: Sink>(pen: &mut Pen<'_, W>, view: &View<'_>, city: u32)
     requires { IsCity (city_count view.now) city }
     ensures { Puts W.Sink pen.old pen.new (dot (spot_in view.now) city) }
@@ -32,7 +32,7 @@ fn put_dot<W: Sink>(pen: &mut Pen<'_, W>, view: &View<'_>, city: u32)
     pen.put(b"h0\n");
 }
 
-/// Puts what comes before the points.
+/// Writes the text before the points.
 fn put_dots_start<W: Sink>(pen: &mut Pen<'_, W>, cities: u32)
     ensures { Puts W.Sink pen.old pen.new
         (line (codes "<path stroke=\"black\" " ++ city_style cities ++ codes " d=\"")) }
@@ -42,7 +42,7 @@ fn put_dots_start<W: Sink>(pen: &mut Pen<'_, W>, cities: u32)
     pen.put(b" d=\"\n");
 }
 
-/// Puts all cities as points.
+/// Writes all cities as points.
 fn put_all_dots<W: Sink>(pen: &mut Pen<'_, W>, view: &View<'_>)
     ensures { Puts W.Sink pen.old pen.new
         (dots (spot_in view.now) (city_style (city_count view.now)) (range_with_len 1 (city_count view.now))) }
@@ -54,7 +54,7 @@ fn put_all_dots<W: Sink>(pen: &mut Pen<'_, W>, view: &View<'_>)
     pen.put(b"\"/>\n");
 }
 
-/// Whether a picture of this many cities has them as points.
+/// Whether a picture of this many cities shows them as points.
 fn has_dots(cities: u32, subject: Subject<'_>) -> bool
     ensures { result ≡ has_dots (drawing_of subject.entry) cities }
 {
@@ -64,7 +64,7 @@ fn has_dots(cities: u32, subject: Subject<'_>) -> bool
     }
 }
 
-/// Puts the cities as points, where the picture has these.
+/// Writes the cities as points, if the picture shows them.
 pub(crate) fn put_city_dots<W: Sink>(pen: &mut Pen<'_, W>, view: &View<'_>, subject: Subject<'_>)
     ensures { Puts W.Sink pen.old pen.new
         (city_dots (spot_in view.now) (city_count view.now) (drawing_of subject.entry)) }
@@ -74,7 +74,7 @@ pub(crate) fn put_city_dots<W: Sink>(pen: &mut Pen<'_, W>, view: &View<'_>, subj
     }
 }
 
-/// Puts a depot as a square.
+/// Writes a depot as a square.
 fn put_square<W: Sink>(pen: &mut Pen<'_, W>, view: &View<'_>, depot: u32)
     requires { IsCity (city_count view.now) depot }
     ensures { Puts W.Sink pen.old pen.new (depot_mark (spot_in view.now) (Some depot)) }
@@ -84,7 +84,7 @@ fn put_square<W: Sink>(pen: &mut Pen<'_, W>, view: &View<'_>, depot: u32)
     pen.put(b"m-80,-80h160v160h-160z\"/>\n");
 }
 
-/// Puts the depot, where there is one.
+/// Writes the depot, if there is one.
 pub(crate) fn put_depot<W: Sink>(pen: &mut Pen<'_, W>, view: &View<'_>, depot: Option<u32>)
     requires { IfSome depot (IsCity (city_count view.now)) }
     ensures { Puts W.Sink pen.old pen.new (depot_mark (spot_in view.now) depot) }

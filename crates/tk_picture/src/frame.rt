@@ -1,10 +1,10 @@
-//! Where the places of a problem stand in a picture.
+//! The positions of the points of a problem in a picture.
 ghost use Rattle.std.specs.Prelude.{◌≡◌};
 ghost use Rattle.tk_picture.specs.Sides.{longer_side};
 
 use tk_problem::{Places, Point};
 
-/// The least rectangle that holds all places of a problem, in units of 10^-9.
+/// The smallest rectangle that contains all points of a problem, in units of 10^-9.
 #[derive(Clone, Copy)]
 pub struct Frame {
     pub left: i64,
@@ -29,7 +29,7 @@ impl Frame {
     ghost use Rattle.tk_picture.specs.Frames.{IsFrame, across, down, drawn_from_left, drawn_from_top};
     ghost use Rattle.tk_picture.specs.Frames.{drawn_height, drawn_width, room_height, view_height};
 
-    /// The frame of some places.
+    /// The frame of these points.
     pub(crate) fn of(places: Places<'_>) -> Frame
         requires { 1 ≤ length (places_of places) }
         ensures { IsFrame (places_of places.entry) result }
@@ -52,56 +52,56 @@ impl Frame {
         }
     }
 
-    /// How far a place is from the left side, in ten-thousandths of the longer side.
+    /// The distance of a point from the left side, in ten-thousandths of the longer side.
     pub(crate) fn across(&self, place: Point) -> u128
         ensures { result ≡ across self.now place }
     {
         place.x.abs_diff(self.left) as u128 * 10_000 / self.side as u128
     }
 
-    /// How far a place is from the top, in ten-thousandths of the longer side.
+    /// The distance of a point from the top, in ten-thousandths of the longer side.
     pub(crate) fn down(&self, place: Point) -> u128
         ensures { result ≡ down self.now place }
     {
         self.top.abs_diff(place.y) as u128 * 10_000 / self.side as u128
     }
 
-    /// How wide the drawing is, in thousandths of the longer side.
+    /// The width of the drawing, in thousandths of the longer side.
     fn drawn_width(&self) -> u128
         ensures { result ≡ drawn_width self.now }
     {
         (self.right.abs_diff(self.left) as u128 * 1_000).div_ceil(self.side as u128)
     }
 
-    /// How high the drawing is, in thousandths of the longer side.
+    /// The height of the drawing, in thousandths of the longer side.
     fn drawn_height(&self) -> u128
         ensures { result ≡ drawn_height self.now }
     {
         (self.top.abs_diff(self.bottom) as u128 * 1_000).div_ceil(self.side as u128)
     }
 
-    /// How high the room for the drawing is.
+    /// The height of the room for the drawing.
     fn room_height(&self) -> u128
         ensures { result ≡ room_height self.now }
     {
         200.max(self.drawn_height())
     }
 
-    /// How high the view of a picture is.
+    /// The height of the view of a picture.
     pub(crate) fn view_height(&self) -> u128
         ensures { result ≡ view_height self.now }
     {
         80 + self.room_height()
     }
 
-    /// How far from the left of the view the drawing begins.
+    /// The distance of the drawing from the left of the view.
     pub(crate) fn drawn_from_left(&self) -> u128
         ensures { result ≡ drawn_from_left self.now }
     {
         20 + 1_000_u128.saturating_sub(self.drawn_width()) / 2
     }
 
-    /// How far from the top of the view the drawing begins.
+    /// The distance of the drawing from the top of the view.
     pub(crate) fn drawn_from_top(&self) -> u128
         ensures { result ≡ drawn_from_top self.now }
     {

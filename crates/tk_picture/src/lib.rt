@@ -1,4 +1,4 @@
-//! Pictures (SVG) of a problem, and of a tour or routes, and pages (HTML) with them.
+//! Pictures (SVG) of a problem, with a tour or routes, and HTML pages that contain them.
 #![tactic(auto)]
 
 mod caption;

@@ -1,4 +1,4 @@
-//! Names of problems, as they can stand in a text of XML or HTML.
+//! Writes names of problems in XML and HTML texts.
 ghost use Rattle.std.specs.Prelude.{◌≡◌, flat_map};
 ghost use Rattle.std.specs.Str.{chars};
 ghost use Rattle.tk_writers.specs.Pens.{Puts};
@@ -6,8 +6,8 @@ ghost use Rattle.tk_picture.specs.Names.{is_plain, shown_byte, shown_name, shown
 
 use tk_writers::{Pen, Sink};
 
-/// Whether a character of a name is put as it is: no control character, none that turns the direction of what comes
-/// after it, and none that XML does not take.
+/// Whether a character of a name is written as it is. It must not be a control character or a bidirectional control
+/// (U+202A to U+202E, U+2066 to U+2069), and XML must allow it.
 fn is_plain(c: char) -> bool
     ensures { result ≡ is_plain c }
 {
@@ -21,7 +21,7 @@ fn is_plain(c: char) -> bool
     )
 }
 
-/// Puts a character that is not of markup, or `?` if it is not plain.
+/// Writes a character that is not one of the four of markup, or `?` if it is not plain.
 fn put_unmarked<W: Sink>(pen: &mut Pen<'_, W>, c: char)
     ensures { Puts W.Sink pen.old pen.new (shown_unmarked c) }
 {
@@ -32,7 +32,7 @@ fn put_unmarked<W: Sink>(pen: &mut Pen<'_, W>, c: char)
     }
 }
 
-/// Puts a character of a name: the four of markup as references, and those that are not plain as `?`.
+/// Writes a character of a name: the four of markup as references, and those that are not plain as `?`.
 fn put_char<W: Sink>(pen: &mut Pen<'_, W>, c: char)
     ensures { Puts W.Sink pen.old pen.new (shown_byte c) }
 {
@@ -45,7 +45,7 @@ fn put_char<W: Sink>(pen: &mut Pen<'_, W>, c: char)
     }
 }
 
-/// Puts a text, character by character.
+/// Writes a text, character by character.
 fn put_text<W: Sink>(pen: &mut Pen<'_, W>, text: &str)
     ensures { Puts W.Sink pen.old pen.new (flat_map shown_byte (chars text.now)) }
 {
@@ -54,7 +54,7 @@ fn put_text<W: Sink>(pen: &mut Pen<'_, W>, text: &str)
     }
 }
 
-/// Puts a name. Each sequence of bytes that is no UTF-8 is put as U+FFFD.
+/// Writes a name. Each sequence of bytes that is not UTF-8 is written as U+FFFD.
 pub(crate) fn put_name<W: Sink>(pen: &mut Pen<'_, W>, name: &[u8])
     ensures { Puts W.Sink pen.old pen.new (shown_name name.now) }
 {

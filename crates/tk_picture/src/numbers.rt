@@ -1,4 +1,4 @@
-//! The numbers of routes.
+//! Writes the numbers of routes.
 ghost use Rattle.std.specs.Prelude.{◌≡◌, ◌≤◌, [], ◌∷◌, ◌++◌, codes, flat_map, map};
 ghost use Rattle.tk_writers.specs.Pens.{Puts};
 ghost use Rattle.tk_distance.specs.Cities.{IsCity};
@@ -14,7 +14,7 @@ use crate::view::View;
 use tk_routes::Cvrp;
 use tk_writers::{Pen, Sink};
 
-/// Puts what comes before the numbers.
+/// Writes the text before the numbers.
 pub(crate) fn put_numbers_start<W: Sink>(pen: &mut Pen<'_, W>, cities: u32)
     ensures { Puts W.Sink pen.old pen.new (numbers_start cities) }
 {
@@ -25,7 +25,7 @@ pub(crate) fn put_numbers_start<W: Sink>(pen: &mut Pen<'_, W>, cities: u32)
     pen.put(b"\">\n");
 }
 
-/// Puts what comes before the colour of a number over a city.
+/// Writes the beginning of a number over a city, up to its colour.
 fn put_mark_start<W: Sink>(pen: &mut Pen<'_, W>, view: &View<'_>, city: u32)
     requires { IsCity (city_count view.now) city }
     ensures { Puts W.Sink pen.old pen.new
@@ -36,7 +36,7 @@ fn put_mark_start<W: Sink>(pen: &mut Pen<'_, W>, view: &View<'_>, city: u32)
     pen.put(b")\" dy=\"-.4em\" fill=\"");
 }
 
-/// Puts a number over a city.
+/// Writes a number over a city.
 fn put_mark<W: Sink>(pen: &mut Pen<'_, W>, view: &View<'_>, number: u64, city: u32)
     requires known { IsCity (city_count view.now) city }
     requires number { 1 ≤ number }
@@ -49,7 +49,7 @@ fn put_mark<W: Sink>(pen: &mut Pen<'_, W>, view: &View<'_>, number: u64, city: u
     pen.put(b"</text>\n");
 }
 
-/// Puts the number of a route over its first customer, if it has one.
+/// Writes the number of a route over its first customer, if it has one.
 fn put_number<W: Sink>(
     pen: &mut Pen<'_, W>,
     view: &View<'_>,
@@ -68,7 +68,7 @@ fn put_number<W: Sink>(
     }
 }
 
-/// Puts the numbers of the routes that hold a customer.
+/// Writes the numbers of the routes that have a customer.
 pub(crate) fn put_numbers<W: Sink>(
     pen: &mut Pen<'_, W>,
     view: &View<'_>,

@@ -1,4 +1,4 @@
-//! A page (HTML) with a picture.
+//! Writes an HTML page with a picture.
 ghost use Rattle.std.specs.Prelude.{IfSome};
 ghost use Rattle.tk_writers.specs.Pens.{Puts};
 ghost use Rattle.tk_distance.specs.Cities.{IsCity};
@@ -20,7 +20,7 @@ use crate::page::table::put_table;
 use crate::picture::{Picture, put_picture, put_title_line};
 use tk_writers::{Pen, Sink};
 
-/// Puts the name of a problem as the heading of a page.
+/// Writes the name of a problem as the heading of a page.
 fn put_heading<W: Sink>(pen: &mut Pen<'_, W>, name: &[u8])
     ensures { Puts W.Sink pen.old pen.new (heading name.now) }
 {
@@ -29,7 +29,7 @@ fn put_heading<W: Sink>(pen: &mut Pen<'_, W>, name: &[u8])
     pen.put(b"</bdi></h1>\n");
 }
 
-/// Puts what the page shows, in the words of the checks.
+/// Writes the caption of the picture, which has the words of the checks.
 fn put_verdict<W: Sink>(pen: &mut Pen<'_, W>, picture: &Picture<'_>)
     ensures { Puts W.Sink pen.old pen.new
         (verdict (city_count picture.now.view) (drawing_of picture.now.subject)) }
@@ -39,7 +39,7 @@ fn put_verdict<W: Sink>(pen: &mut Pen<'_, W>, picture: &Picture<'_>)
     pen.put(b"</p>\n");
 }
 
-/// Puts what comes before the picture.
+/// Writes the text before the picture.
 fn put_opening<W: Sink>(pen: &mut Pen<'_, W>, picture: &Picture<'_>, parts: &Parts<'_>)
     ensures { Puts W.Sink pen.old pen.new (opening parts.now picture.now.name.now
         (city_count picture.now.view) (drawing_of picture.now.subject)) }
@@ -54,7 +54,7 @@ fn put_opening<W: Sink>(pen: &mut Pen<'_, W>, picture: &Picture<'_>, parts: &Par
     pen.put(b"<div id=\"stage\">\n");
 }
 
-/// Puts what comes after the data.
+/// Writes the text after the data.
 fn put_ending<W: Sink>(pen: &mut Pen<'_, W>, parts: &Parts<'_>)
     ensures { Puts W.Sink pen.old pen.new (page_ending parts.now) }
 {
@@ -64,7 +64,7 @@ fn put_ending<W: Sink>(pen: &mut Pen<'_, W>, parts: &Parts<'_>)
     pen.put(b"</script>\n");
 }
 
-/// Puts a page.
+/// Writes a page.
 pub(crate) fn put_page<W: Sink>(pen: &mut Pen<'_, W>, picture: &Picture<'_>, parts: &Parts<'_>)
     requires fits { Fits (city_count picture.now.view) picture.now.subject }
     requires depot { IfSome picture.now.depot (IsCity (city_count picture.now.view)) }

@@ -1,4 +1,4 @@
-//! A picture of a problem.
+//! Writes a picture of a problem.
 ghost use Rattle.std.specs.Prelude.{◌≤◌, ◌++◌, IfSome, OnErr, codes, decimal, flat_map, length};
 ghost use Rattle.tk_writers.specs.Pens.{Puts};
 ghost use Rattle.tk_writers.specs.Puts.{Writes};
@@ -22,27 +22,27 @@ use crate::subject::Subject;
 use crate::view::View;
 use tk_writers::{Pen, Sink, WriteFault};
 
-/// A picture of a problem of this name: its cities, closed lines through them, and its depot.
+/// A picture of a problem with this name: its cities, closed lines through them, and its depot.
 #[derive(Clone, Copy)]
 pub struct Picture<'a> {
     pub name: &'a [u8],
     pub view: View<'a>,
     pub subject: Subject<'a>,
     pub depot: Option<u32>,
-    /// The demands by node: none where there is no routing.
+    /// The demands of the nodes; empty if there is no routing.
     pub demands: &'a [u32],
 }
 
-/// How a picture is written.
+/// The format of a picture.
 #[derive(Clone, Copy)]
 pub enum Form<'a> {
-    /// As an SVG.
+    /// SVG.
     Svg,
-    /// Within a page (HTML) that has these parts.
+    /// An HTML page that has these parts.
     Page(Parts<'a>),
 }
 
-/// Puts the line with the size of the view.
+/// Writes the line with the size of the view.
 fn put_view_line<W: Sink>(pen: &mut Pen<'_, W>, height: u128)
     ensures { Puts W.Sink pen.old pen.new (view_line height) }
 {
@@ -51,7 +51,7 @@ fn put_view_line<W: Sink>(pen: &mut Pen<'_, W>, height: u128)
     pen.put(b"\">\n");
 }
 
-/// Puts the line with the title.
+/// Writes the line with the title.
 pub(crate) fn put_title_line<W: Sink>(pen: &mut Pen<'_, W>, picture: &Picture<'_>)
     ensures { Puts W.Sink pen.old pen.new (title_line
         (title picture.now.name.now (city_count picture.now.view) (drawing_of picture.now.subject))) }
@@ -61,7 +61,7 @@ pub(crate) fn put_title_line<W: Sink>(pen: &mut Pen<'_, W>, picture: &Picture<'_
     pen.put(b"</title>\n");
 }
 
-/// Puts the line with the title that is drawn.
+/// Writes the line with the title that is drawn.
 fn put_heading_line<W: Sink>(pen: &mut Pen<'_, W>, picture: &Picture<'_>)
     ensures { Puts W.Sink pen.old pen.new (heading_line
         (title picture.now.name.now (city_count picture.now.view) (drawing_of picture.now.subject))) }
@@ -71,7 +71,7 @@ fn put_heading_line<W: Sink>(pen: &mut Pen<'_, W>, picture: &Picture<'_>)
     pen.put(b"</text>\n");
 }
 
-/// Puts where in the view the drawing begins.
+/// Writes the position of the drawing in the view.
 fn put_group_start<W: Sink>(pen: &mut Pen<'_, W>, frame: &Frame)
     ensures { Puts W.Sink pen.old pen.new (codes "<g transform=\"translate("
         ++ decimal (drawn_from_left frame.now) ++ codes " " ++ decimal (drawn_from_top frame.now)) }
@@ -82,7 +82,7 @@ fn put_group_start<W: Sink>(pen: &mut Pen<'_, W>, frame: &Frame)
     pen.put_wide(frame.drawn_from_top());
 }
 
-/// Puts the line with which lines and points begin.
+/// Writes the line before the lines and the points.
 fn put_group_line<W: Sink>(pen: &mut Pen<'_, W>, frame: &Frame, cities: u32)
     ensures { Puts W.Sink pen.old pen.new (group_line frame.now cities) }
 {
@@ -94,7 +94,7 @@ fn put_group_line<W: Sink>(pen: &mut Pen<'_, W>, frame: &Frame, cities: u32)
     pen.put(b"\">\n");
 }
 
-/// Puts what comes before the lines and the points.
+/// Writes the text before the lines and the points.
 fn put_head<W: Sink>(pen: &mut Pen<'_, W>, picture: &Picture<'_>)
     ensures { Puts W.Sink pen.old pen.new (head picture.now.view.frame
         (title picture.now.name.now (city_count picture.now.view) (drawing_of picture.now.subject))
@@ -107,7 +107,7 @@ fn put_head<W: Sink>(pen: &mut Pen<'_, W>, picture: &Picture<'_>)
     put_group_line(pen, &picture.view.frame, picture.view.size());
 }
 
-/// Puts the closed lines.
+/// Writes the closed lines.
 fn put_lines<W: Sink>(pen: &mut Pen<'_, W>, view: &View<'_>, subject: Subject<'_>)
     requires { Fits (city_count view.now) subject }
     ensures { Puts W.Sink pen.old pen.new
@@ -120,7 +120,7 @@ fn put_lines<W: Sink>(pen: &mut Pen<'_, W>, view: &View<'_>, subject: Subject<'_
     }
 }
 
-/// Puts the numbers of routes, where there are routes.
+/// Writes the numbers of the routes, if there are routes.
 fn put_route_numbers<W: Sink>(pen: &mut Pen<'_, W>, view: &View<'_>, subject: Subject<'_>)
     requires { Fits (city_count view.now) subject }
     ensures { Puts W.Sink pen.old pen.new
@@ -133,7 +133,7 @@ fn put_route_numbers<W: Sink>(pen: &mut Pen<'_, W>, view: &View<'_>, subject: Su
     }
 }
 
-/// Puts a picture.
+/// Writes a picture as an SVG.
 pub(crate) fn put_picture<W: Sink>(pen: &mut Pen<'_, W>, picture: &Picture<'_>)
     requires fits { Fits (city_count picture.now.view) picture.now.subject }
     requires depot { IfSome picture.now.depot (IsCity (city_count picture.now.view)) }
@@ -147,7 +147,7 @@ pub(crate) fn put_picture<W: Sink>(pen: &mut Pen<'_, W>, picture: &Picture<'_>)
     pen.put(b"</g>\n</svg>\n");
 }
 
-/// Puts a picture in a form.
+/// Writes a picture in a format.
 fn put_form<W: Sink>(pen: &mut Pen<'_, W>, picture: &Picture<'_>, form: Form<'_>)
     requires fits { Fits (city_count picture.now.view) picture.now.subject }
     requires depot { IfSome picture.now.depot (IsCity (city_count picture.now.view)) }

@@ -1,4 +1,4 @@
-//! Where cities stand in a picture.
+//! The positions of cities in a picture.
 ghost use Rattle.std.specs.Prelude.{◌≤◌, length};
 ghost use Rattle.tk_problem.specs.declared.limits.TheConstants.{CITY_LIMIT};
 ghost use Rattle.tk_problem.specs.PlacesOf.{places_of};
@@ -8,7 +8,7 @@ use tk_problem::Places;
 use tk_routes::Cvrp;
 use tk_writers::{Pen, Sink};
 
-/// The places of at most 100,000 cities, and the frame of a picture of them.
+/// The points of at most 100,000 cities, and the frame of a picture of them.
 #[derive(Clone, Copy)]
 pub struct View<'a> {
     pub places: Places<'a>,
@@ -20,7 +20,7 @@ impl<'a> View<'a> {
     ghost use Rattle.std.specs.Prelude.{◌≡◌};
     ghost use Rattle.tk_picture.specs.Frames.{IsFrame};
 
-    /// A view of these places.
+    /// A view of these points.
     pub fn over(places: Places<'a>) -> View<'a>
         requires some { 1 ≤ length (places_of places) }
         requires few { length (places_of places) ≤ CITY_LIMIT }
@@ -44,7 +44,7 @@ impl View<'_> {
     ghost use Rattle.tk_picture.specs.DrawnRoutes.{AreCustomers};
     ghost use Rattle.tk_picture.specs.Views.{city_count, spot_in};
 
-    /// How many cities there are.
+    /// The number of cities.
     pub(crate) fn size(&self) -> u32
         ensures value { result ≡ city_count self.now }
         ensures few { result ≤ CITY_LIMIT }
@@ -52,7 +52,7 @@ impl View<'_> {
         self.places.len() as u32
     }
 
-    /// Puts where a city stands.
+    /// Writes the position of a city.
     pub(crate) fn put_spot<W: Sink>(&self, pen: &mut Pen<'_, W>, city: u32)
         requires { IsCity (city_count self.now) city }
         ensures { Puts W.Sink pen.old pen.new (spot_in self.now city) }
@@ -63,7 +63,7 @@ impl View<'_> {
         pen.put_wide(self.frame.down(place));
     }
 
-    /// Puts where a city stands, on a line.
+    /// Writes the position of a city, on a line of its own.
     fn put_corner<W: Sink>(&self, pen: &mut Pen<'_, W>, city: u32)
         requires { IsCity (city_count self.now) city }
         ensures { Puts W.Sink pen.old pen.new (line (spot_in self.now city)) }
@@ -72,7 +72,7 @@ impl View<'_> {
         pen.put(b"\n");
     }
 
-    /// Puts where cities stand, each on a line.
+    /// Writes the positions of cities, one per line.
     pub(crate) fn put_corners<W: Sink>(&self, pen: &mut Pen<'_, W>, cities: &[u32])
         requires { All (IsCity (city_count self.now)) cities.now }
         ensures { Puts W.Sink pen.old pen.new (flat_map (λ c. line (spot_in self.now c)) cities.now) }
@@ -82,7 +82,7 @@ impl View<'_> {
         }
     }
 
-    /// Puts where the depot and the customers of a route stand, each on a line.
+    /// Writes the positions of the depot and of the customers of a route, one per line.
     pub(crate) fn put_stops<W: Sink>(&self, pen: &mut Pen<'_, W>, cvrp: &Cvrp<'_>, route: &[u32])
         requires size { (instance_of cvrp.now).size ≡ city_count self.now }
         requires known { AreCustomers cvrp.now route.now }

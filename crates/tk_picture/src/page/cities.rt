@@ -1,4 +1,4 @@
-//! The cities of a page, as lines for its script.
+//! Writes the cities of a page, as lines for its script.
 ghost use Rattle.std.specs.Prelude.{◌-◌, flat_map, codes, option_copied};
 ghost use Rattle.std.specs.Fmt.{signed_decimal};
 ghost use Rattle.std.specs.List.{range_with_len};
@@ -12,7 +12,7 @@ use crate::picture::Picture;
 use crate::view::View;
 use tk_writers::{Pen, Sink};
 
-/// Puts a whole number.
+/// Writes an integer.
 fn put_signed<W: Sink>(pen: &mut Pen<'_, W>, number: i64)
     ensures { Puts W.Sink pen.old pen.new (signed_decimal number) }
 {
@@ -24,7 +24,7 @@ fn put_signed<W: Sink>(pen: &mut Pen<'_, W>, number: i64)
     }
 }
 
-/// Puts the coordinates of a city, in units of 10^-9.
+/// Writes the coordinates of a city, in units of 10^-9.
 fn put_coordinates<W: Sink>(pen: &mut Pen<'_, W>, view: &View<'_>, city: u32)
     requires { IsCity (city_count view.now) city }
     ensures { Puts W.Sink pen.old pen.new (coordinates (places_of view.now.places) city) }
@@ -35,7 +35,7 @@ fn put_coordinates<W: Sink>(pen: &mut Pen<'_, W>, view: &View<'_>, city: u32)
     put_signed(pen, place.y);
 }
 
-/// Puts the demand of a city, where there are demands.
+/// Writes the demand of a city, if there are demands.
 fn put_demand<W: Sink>(pen: &mut Pen<'_, W>, demand: Option<&u32>)
     ensures { Puts W.Sink pen.old pen.new (demand_word (option_copied demand.entry)) }
 {
@@ -45,7 +45,7 @@ fn put_demand<W: Sink>(pen: &mut Pen<'_, W>, demand: Option<&u32>)
     }
 }
 
-/// Puts whether a city is the depot.
+/// Writes `depot` if the city is the depot.
 fn put_depot_word<W: Sink>(pen: &mut Pen<'_, W>, depot: Option<u32>, city: u32)
     ensures { Puts W.Sink pen.old pen.new (depot_word depot city) }
 {
@@ -54,7 +54,7 @@ fn put_depot_word<W: Sink>(pen: &mut Pen<'_, W>, depot: Option<u32>, city: u32)
     }
 }
 
-/// Puts the line of a city.
+/// Writes the line of a city.
 fn put_city<W: Sink>(pen: &mut Pen<'_, W>, picture: &Picture<'_>, city: u32)
     requires { IsCity (city_count picture.now.view) city }
     ensures { Puts W.Sink pen.old pen.new (city_line picture.now.view.frame
@@ -68,7 +68,7 @@ fn put_city<W: Sink>(pen: &mut Pen<'_, W>, picture: &Picture<'_>, city: u32)
     pen.put(b"\n");
 }
 
-/// Puts the lines of all cities.
+/// Writes the lines of all cities.
 pub(crate) fn put_cities<W: Sink>(pen: &mut Pen<'_, W>, picture: &Picture<'_>)
     ensures { Puts W.Sink pen.old pen.new (data_block (codes "cities")
         (flat_map (city_line picture.now.view.frame (places_of picture.now.view.places) picture.now.demands.now

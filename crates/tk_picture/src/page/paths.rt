@@ -1,4 +1,4 @@
-//! The closed lines of a page, as lines of cities for its script.
+//! Writes the closed lines of a page, as lines of cities for its script.
 ghost use Rattle.std.specs.Prelude.{[], ◌∷◌, codes, flat_map, map};
 ghost use Rattle.tk_writers.specs.Pens.{Puts};
 ghost use Rattle.tk_routes.specs.Cvrps.{instance_of};
@@ -11,7 +11,7 @@ use crate::subject::Subject;
 use tk_routes::Cvrp;
 use tk_writers::{Pen, Sink};
 
-/// Puts the cities of a tour, on a line.
+/// Writes the cities of a tour on one line.
 fn put_tour<W: Sink>(pen: &mut Pen<'_, W>, cities: &[u32])
     ensures { Puts W.Sink pen.old pen.new (path_line (record { number = 1; cities = cities.now })) }
 {
@@ -19,7 +19,7 @@ fn put_tour<W: Sink>(pen: &mut Pen<'_, W>, cities: &[u32])
     pen.put(b"\n");
 }
 
-/// Puts the depot and the nodes of a route's customers, on a line, if it holds one.
+/// Writes the depot and the nodes of a route's customers on one line, if it has a customer.
 fn put_route<W: Sink>(pen: &mut Pen<'_, W>, number: u64, cvrp: &Cvrp<'_>, route: &[u32])
     requires { AreCustomers cvrp.now route.now }
     ensures { Puts W.Sink pen.old pen.new
@@ -36,7 +36,7 @@ fn put_route<W: Sink>(pen: &mut Pen<'_, W>, number: u64, cvrp: &Cvrp<'_>, route:
     pen.put(b"\n");
 }
 
-/// Puts the lines of the routes that hold a customer.
+/// Writes the lines of the routes that have a customer.
 fn put_routes<W: Sink>(pen: &mut Pen<'_, W>, cvrp: &Cvrp<'_>, routes: &[Vec<u32>])
     requires once { ServeOnce cvrp.now routes.now }
     ensures { Puts W.Sink pen.old pen.new
@@ -49,7 +49,7 @@ fn put_routes<W: Sink>(pen: &mut Pen<'_, W>, cvrp: &Cvrp<'_>, routes: &[Vec<u32>
     }
 }
 
-/// Puts the lines of a tour or of routes.
+/// Writes the lines of a tour or of routes.
 fn put_path_lines<W: Sink>(pen: &mut Pen<'_, W>, size: u32, subject: Subject<'_>)
     requires { Fits size subject }
     ensures { Puts W.Sink pen.old pen.new (flat_map path_line (paths_of (drawing_of subject.entry))) }
@@ -61,7 +61,7 @@ fn put_path_lines<W: Sink>(pen: &mut Pen<'_, W>, size: u32, subject: Subject<'_>
     }
 }
 
-/// Puts the closed lines.
+/// Writes the closed lines of a page.
 pub(crate) fn put_paths<W: Sink>(pen: &mut Pen<'_, W>, size: u32, subject: Subject<'_>)
     requires { Fits size subject }
     ensures { Puts W.Sink pen.old pen.new

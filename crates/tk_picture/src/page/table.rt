@@ -1,4 +1,4 @@
-//! The table of routes of a page.
+//! Writes the table of routes of a page.
 ghost use Rattle.std.specs.Prelude.{◌≡◌, ◌≤◌, [], ◌∷◌, ◌++◌, codes, decimal, flat_map, length, map};
 ghost use Rattle.tk_writers.specs.Pens.{Puts};
 ghost use Rattle.tk_problem.specs.declared.limits.TheConstants.{CITY_LIMIT};
@@ -12,7 +12,7 @@ use crate::subject::Subject;
 use tk_routes::Cvrp;
 use tk_writers::{Pen, Sink};
 
-/// Puts the headings of the table's columns.
+/// Writes the headings of the columns.
 fn put_table_head<W: Sink>(pen: &mut Pen<'_, W>)
     ensures { Puts W.Sink pen.old pen.new table_head }
 {
@@ -21,7 +21,7 @@ fn put_table_head<W: Sink>(pen: &mut Pen<'_, W>)
     pen.put(b"<tbody>\n");
 }
 
-/// Puts what comes before the rows.
+/// Writes the text before the rows.
 fn put_table_start<W: Sink>(pen: &mut Pen<'_, W>, capacity: u32)
     ensures { Puts W.Sink pen.old pen.new (table_start capacity) }
 {
@@ -31,7 +31,7 @@ fn put_table_start<W: Sink>(pen: &mut Pen<'_, W>, capacity: u32)
     put_table_head(pen);
 }
 
-/// A load as a percentage of the capacity, rounded down: 0 if there is no capacity.
+/// A load as a percentage of the capacity, rounded down; 0 if the capacity is 0.
 fn share(load: u64, capacity: u32) -> u128
     ensures { result ≡ share load capacity }
 {
@@ -41,7 +41,7 @@ fn share(load: u64, capacity: u32) -> u128
     load as u128 * 100 / capacity as u128
 }
 
-/// Puts a number in a cell of its own.
+/// Writes a number in a cell of its own.
 fn put_cell<W: Sink>(pen: &mut Pen<'_, W>, number: u64)
     ensures { Puts W.Sink pen.old pen.new (codes "<td>" ++ decimal number) }
 {
@@ -49,7 +49,7 @@ fn put_cell<W: Sink>(pen: &mut Pen<'_, W>, number: u64)
     pen.put_number(number);
 }
 
-/// Puts the row of a route that holds a customer.
+/// Writes the row of a route that has a customer.
 fn put_row<W: Sink>(pen: &mut Pen<'_, W>, number: u64, cvrp: &Cvrp<'_>, route: &[u32])
     requires known { AreCustomers cvrp.now route.now }
     requires few { length route.now ≤ CITY_LIMIT }
@@ -66,7 +66,7 @@ fn put_row<W: Sink>(pen: &mut Pen<'_, W>, number: u64, cvrp: &Cvrp<'_>, route: &
     pen.put(b"\n");
 }
 
-/// Puts the row of a route, if it holds a customer.
+/// Writes the row of a route, if it has a customer.
 fn put_filled<W: Sink>(pen: &mut Pen<'_, W>, number: u64, cvrp: &Cvrp<'_>, route: &[u32])
     requires known { AreCustomers cvrp.now route.now }
     requires few { length route.now ≤ CITY_LIMIT }
@@ -78,7 +78,7 @@ fn put_filled<W: Sink>(pen: &mut Pen<'_, W>, number: u64, cvrp: &Cvrp<'_>, route
     }
 }
 
-/// Puts the rows of the routes that hold a customer.
+/// Writes the rows of the routes that have a customer.
 fn put_rows<W: Sink>(pen: &mut Pen<'_, W>, cvrp: &Cvrp<'_>, routes: &[Vec<u32>])
     requires once { ServeOnce cvrp.now routes.now }
     ensures { Puts W.Sink pen.old pen.new
@@ -91,7 +91,7 @@ fn put_rows<W: Sink>(pen: &mut Pen<'_, W>, cvrp: &Cvrp<'_>, routes: &[Vec<u32>])
     }
 }
 
-/// Puts the table of routes, where there are routes.
+/// Writes the table of routes, if there are routes.
 pub(crate) fn put_table<W: Sink>(pen: &mut Pen<'_, W>, size: u32, subject: Subject<'_>)
     requires { Fits size subject }
     ensures { Puts W.Sink pen.old pen.new (table (drawing_of subject.entry)) }
