@@ -8,27 +8,28 @@ use Rattle.tk_words.specs.declared.fault.TextKind.{TextKind}
 use Rattle.tk_words.specs.declared.fault.TextKind.TheVariants as kinds
 use Rattle.tk_words.specs.Lex.{front, behind, is_empty, natural}
 
--- the number that digits spell after those that make n
+-- the number that the digits of n, followed by these digits, spell
 abbrev pub number_behind : ℕ → List ℕ → ℕ
 number_behind n digits = fold (λ m d. m * 10 + (d - 48)) n digits
 
 abbrev pub number_of : List ℕ → ℕ
 number_of digits = number_behind 0 digits
 
--- the digits after a point, and what comes after them
+-- the digits after a point
 abbrev pub fraction : List ℕ → List ℕ
 fraction [] = []
 fraction (b ∷ bs) = if b == 46 then front is_ascii_digit bs else []
 
+-- the bytes after a point and its digits
 abbrev pub behind_fraction : List ℕ → List ℕ
 behind_fraction [] = []
 behind_fraction (b ∷ bs) = if b == 46 then behind is_ascii_digit bs else b ∷ bs
 
--- 1 to 3 digits
+-- the number that 1 to 3 digits spell
 abbrev pub small : List ℕ → Option ℕ
 small bs = if nat_lt 3 (length bs) then None else natural bs
 
--- powers of ten up and down
+-- the powers of ten by which a number is multiplied and divided
 abbrev pub Powers : Type 0
 Powers = ℕ × ℕ
 
@@ -43,7 +44,8 @@ abbrev pub exponent : List ℕ → Option Powers
 exponent [] = Some (0, 0)
 exponent (b ∷ bs) = if b == 101 || b == 69 then powers bs else None
 
--- a number without its sign: digits with at most one point, at least one digit; rounded down
+-- a number without its sign, in billionths, rounded down: digits with at most one point, at least one digit, and an
+-- optional exponent
 abbrev pub billionths : List ℕ → Option ℕ
 billionths bs =
     let whole = front is_ascii_digit bs in
@@ -52,14 +54,14 @@ billionths bs =
     else option_map (λ e. number_of (whole ++ fraction rest) * 10 ^ (9 + e.0) / 10 ^ (length (fraction rest) + e.1))
     (exponent (behind_fraction rest))
 
--- rounded towards zero
+-- a decimal number in billionths, rounded towards zero
 abbrev pub decimal_of : List ℕ → Option ℤ
 decimal_of [] = None
 decimal_of (b ∷ bs) =
     if b == 45 then option_map (λ n. neg_ℤ (pos n)) (billionths bs)
     else option_map pos (billionths (if b == 43 then bs else b ∷ bs))
 
--- of at most the greatest magnitude of a coordinate
+-- a number whose magnitude is at most the maximum of a coordinate
 abbrev pub limited : Option ℤ → Result ℤ TextKind
 limited None = Err kinds.BadNumber
 limited (Some z) = if nat_le (unsigned_abs z) greatest_coordinate then Ok z else Err kinds.OutOfLimit

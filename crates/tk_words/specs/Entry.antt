@@ -1,4 +1,4 @@
--- What a token is where a number is wanted.
+-- How a token is read where a number is expected.
 use Rattle.std.specs.Prelude.{◌≡◌, ◌≤◌, pos, true, false, List, ℕ, Some, None, Bool, not, ◌&&◌, ◌==◌, nat_le, [], ◌∷◌}
 use Rattle.std.specs.Prelude.{Option, ℤ, if◌then◌else◌, is_none}
 use Rattle.tk_words.specs.declared.numbers.entries.Entry.{Entry}
@@ -24,7 +24,7 @@ abbrev pub is_eof_word : Option Keyword → Bool
 is_eof_word None = false
 is_eof_word (Some word) = same_word word words.Eof
 
--- a token that stands for no number: EOF, or a word that begins lines
+-- whether a token is a keyword, such as EOF, instead of a number
 abbrev pub is_keyword : List ℕ → Bool
 is_keyword bs = is_some_word (keyword_of (without_colon bs))
 
@@ -35,7 +35,7 @@ abbrev pub in_range : ℕ → ℕ → Option ℤ → Bool
 in_range low high (Some (pos n)) = nat_le low n && nat_le n high
 in_range low high _ = false
 
--- an integer within limits
+-- the tests of an integer within limits
 abbrev pub number_tests : ℕ → ℕ → List ℕ → List (Bool × TextKind)
 number_tests low high bs =
     (is_none (integer bs), kinds.BadNumber) ∷ (not (in_range low high (integer bs)), kinds.OutOfLimit) ∷ []
@@ -48,7 +48,7 @@ abbrev pub numbers_of : List Token → List ℕ
 numbers_of [] = []
 numbers_of (t ∷ ts) = natural_or_zero (integer t.bytes) ∷ numbers_of ts
 
--- an integer is no word, and a word is no integer
+-- an integer is not a keyword, and a keyword is not an integer
 abbrev pub IsEntry : List ℕ → Entry → Type 0
 IsEntry bs (entries.Number z) = (integer bs ≡ Some z) × (is_keyword bs ≡ false) × (is_eof bs ≡ false)
 IsEntry bs entries.Eof = (integer bs ≡ None) × (is_keyword bs ≡ true) × (is_eof bs ≡ true)

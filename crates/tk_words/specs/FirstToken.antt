@@ -2,7 +2,7 @@
 use Rattle.std.specs.Prelude.{◌≡◌, ◌≤◌, ◌<◌, ℕ, ◌||◌, ◌==◌, true, false, List, length, take, slice_index_or, All}
 use Rattle.tk_words.specs.Lex.{LF, is_blank}
 
--- bytes begin with this token, which is not too long, and a byte that ends it
+-- the bytes begin with this token, which is not too long, and then have a byte that ends it
 pub record IsFirstToken (token bytes : List ℕ) : Type 0 where
   pub some : 1 ≤ length token
   pub short : length token ≤ 64

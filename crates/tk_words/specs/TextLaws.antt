@@ -1,4 +1,4 @@
--- Laws of what bytes decide. The functions of the formats' `src/laws.rt` carry them.
+-- Laws of the answers that bytes decide. The functions in `src/laws.rt` of the formats have them as their contracts.
 use Rattle.std.specs.Prelude.{◌≡◌, Bool, true, false, ℕ, List, ◌++◌, Option, Some}
 use Rattle.std.specs.Option.{IsSome}
 
@@ -6,7 +6,7 @@ use Rattle.std.specs.Option.{IsSome}
 abbrev pub HasAnswers : {A : Type 0} → (Bool → List ℕ → Option A) → Type 0
 HasAnswers decided = (text : List ℕ) → IsSome (decided true text)
 
--- what is decided stays: each text that begins with the bytes has the answer that they have, though more may follow
+-- a decided answer stays: if bytes have an answer though more may follow, each text that begins with them has it
 abbrev pub StaysDecided : {A : Type 0} → (Bool → List ℕ → Option A) → Type 0
 StaysDecided {A = A} decided =
     (bs : List ℕ) (a : A) → decided false bs ≡ Some a → (ended : Bool) (more : List ℕ) →

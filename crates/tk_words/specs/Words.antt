@@ -17,7 +17,7 @@ same_bytes _ _ = false
 abbrev pub spells : List ℕ → List ℕ → Bool
 spells bs text = same_bytes (map to_ascii_uppercase bs) text
 
--- the bytes begin as every word does
+-- whether the bytes begin with a letter, as every word does
 abbrev pub begins_word : List ℕ → Bool
 begins_word [] = false
 begins_word (b ∷ bs) = is_letter b
@@ -47,7 +47,7 @@ word words.TourSection = codes "TOUR_SECTION"
 word words.Eof = codes "EOF"
 word words.Cost = codes "Cost"
 
--- the words that begin a line of a problem or a tour; `Cost` begins one of solutions alone
+-- the words that begin a line of a problem or a tour; `Cost` begins a line only in solutions
 abbrev pub all_keywords : List Keyword
 all_keywords =
     words.Name
@@ -77,7 +77,7 @@ all_keywords =
 unfoldable pub keyword_of : List ℕ → Option Keyword
 keyword_of bs = find (λ keyword. spells bs (word keyword)) all_keywords
 
--- a place for each word
+-- a number for each word
 abbrev pub code : Keyword → ℕ
 code words.Name = 0
 code words.Comment = 1
@@ -105,7 +105,7 @@ code words.Cost = 21
 abbrev pub same_word : Keyword → Keyword → Bool
 same_word a b = code a == code b
 
--- what a word begins
+-- the role of a word
 abbrev pub role : Keyword → Role
 role words.NodeCoordSection = BeginsSection
 role words.EdgeWeightSection = BeginsSection

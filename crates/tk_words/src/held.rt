@@ -1,4 +1,4 @@
-//! Some bytes of a text, and what a byte is.
+//! A buffer for some bytes of a text, and the classes of bytes.
 ghost use Rattle.std.specs.Prelude.{◌≡◌, ◌<◌, ◌≤◌, ◌||◌, ◌==◌, true, false, List, ℕ, [], ◌∷◌, ◌++◌, All, length};
 ghost use Rattle.std.specs.Prelude.{slice_index_or, take};
 ghost use Rattle.tk_words.specs.Lex.{is_blank, is_letter, is_word_byte};
@@ -6,7 +6,7 @@ ghost use Rattle.tk_words.specs.Words.{spells};
 
 use std::marker::Model;
 
-/// Up to N bytes.
+/// A buffer of up to N bytes.
 #[derive(Drop)]
 pub struct Held<const N: usize> {
     bytes: [u8; N],
@@ -22,7 +22,7 @@ impl<const N: usize> Model for Held<N> {
 }
 
 impl<const N: usize> Held<N> {
-    /// No byte.
+    /// An empty buffer.
     pub fn new() -> Self
         ensures { result ≡ [] }
     {
@@ -40,7 +40,7 @@ impl<const N: usize> Held<N> {
         self.len == N
     }
 
-    /// Lets all bytes go.
+    /// Removes all bytes.
     pub fn clear(&mut self)
         ensures { self.new ≡ [] }
     {
@@ -56,7 +56,7 @@ impl<const N: usize> Held<N> {
         self.len += 1;
     }
 
-    /// The bytes, and one more.
+    /// A copy with one more byte at its end.
     pub fn followed_by(&self, byte: u8) -> Self
         requires { length self.now < N }
         ensures { result ≡ self.now ++ byte ∷ [] }
@@ -69,7 +69,7 @@ impl<const N: usize> Held<N> {
         longer
     }
 
-    /// Takes a byte, where there is room.
+    /// Adds a byte, if there is room for it.
     pub fn keep(&mut self, byte: u8)
         ensures { self.new ≡ take N (self.old ++ byte ∷ []) }
     {
@@ -100,7 +100,7 @@ pub fn letter(byte: u8) -> bool
     (b'A' <= byte && byte <= b'Z') || (b'a' <= byte && byte <= b'z')
 }
 
-/// Whether a byte may stand in a word: a letter, a digit or `_`.
+/// Whether a byte can be part of a word: a letter, a digit or `_`.
 pub fn word_byte(byte: u8) -> bool
     ensures { result ≡ is_word_byte byte }
 {
@@ -114,7 +114,7 @@ pub fn blank_or_end(byte: u8) -> bool
     blank(byte) || byte == b'\n'
 }
 
-/// How many bytes stand before the first that ends a token.
+/// The number of bytes before the first one that ends a token.
 pub fn token_length(bytes: &[u8]) -> usize
     ensures count { result ≤ length bytes.now }
     ensures solid { All (λ b. (is_blank b || b == 10) ≡ false) (take result bytes.now) }
@@ -129,7 +129,7 @@ pub fn token_length(bytes: &[u8]) -> usize
     bytes.len()
 }
 
-/// Whether bytes spell a text in capitals.
+/// Whether these bytes spell a text, which is in capitals. Their own case does not matter.
 pub fn spelled(bytes: &[u8], text: &[u8]) -> bool
     ensures { result ≡ spells bytes.now text.now }
 {

@@ -17,14 +17,14 @@ use crate::numbers::integers::integer;
 use std::marker::Model;
 use tk_problem::{COORDINATE_LIMIT, SCALE};
 
-/// The most bytes of a token.
+/// Maximum number of bytes of a token.
 const TOKEN_LIMIT: usize = 64;
 
-/// The most digits of a whole number.
+/// Maximum number of digits of a whole number.
 const DIGIT_LIMIT: usize = 18;
 
-/// The bytes of a token, and the number that they spell where this is known: most tokens are whole numbers, which are
-/// computed while the end of the token is looked for.
+/// The bytes of a token, and the number that they spell, if it is known. Most tokens are whole numbers, which are
+/// computed while the end of the token is searched for.
 #[derive(Drop)]
 pub struct Lexeme<'a> {
     bytes: &'a [u8],
@@ -40,7 +40,7 @@ impl<'a> Model for Lexeme<'a> {
 }
 
 impl<'a> Lexeme<'a> {
-    /// These bytes, whatever they spell.
+    /// A token of these bytes, whatever they spell.
     pub fn new(bytes: &'a [u8]) -> Self
         ensures { result ≡ bytes.now }
     {
@@ -50,7 +50,7 @@ impl<'a> Lexeme<'a> {
         }
     }
 
-    /// The token that bytes begin with, where a blank or a line feed stands after it and it is not too long.
+    /// The token at the front of these bytes, if it is not too long and a blank or a line feed follows it.
     #[inline(always)]
     pub fn first(bytes: &'a [u8]) -> Option<Self>
         ensures { IfSome result (λ token. IsFirstToken token bytes.now) }
@@ -72,7 +72,7 @@ impl<'a> Lexeme<'a> {
         Lexeme::other(bytes)
     }
 
-    /// The same, where the token may be no whole number.
+    /// Like `first`, but for a token that might not be a whole number.
     fn other(bytes: &'a [u8]) -> Option<Self>
         ensures { IfSome result (λ token. IsFirstToken token bytes.now) }
     {
@@ -83,14 +83,14 @@ impl<'a> Lexeme<'a> {
         Some(Lexeme::new(&bytes[..length]))
     }
 
-    /// How many bytes it has.
+    /// The number of bytes.
     pub fn len(&self) -> usize
         ensures { result ≡ length self.now }
     {
         self.bytes.len()
     }
 
-    /// The integer that it spells, and `None` where it spells none.
+    /// The integer that the token spells; `None` if it does not spell one.
     #[inline(always)]
     pub fn integer(&self) -> Option<i64>
         ensures { result ≡ Lex.integer self.now }
@@ -101,7 +101,7 @@ impl<'a> Lexeme<'a> {
         }
     }
 
-    /// The decimal number that it spells, in billionths, rounded towards zero.
+    /// The decimal number that the token spells, in billionths, rounded towards zero.
     ///
     /// # Errors
     /// Those of `decimal`.
@@ -118,7 +118,7 @@ impl<'a> Lexeme<'a> {
         }
     }
 
-    /// The word that it is, with or without a colon at its end.
+    /// The keyword that the token spells, with or without a colon at its end.
     #[inline(always)]
     pub fn keyword(&self) -> Option<Keyword>
         ensures { result ≡ Words.keyword_of (without_colon self.now) }
@@ -129,7 +129,7 @@ impl<'a> Lexeme<'a> {
         }
     }
 
-    /// What it is where a number is wanted.
+    /// How the token is read where a number is expected.
     #[inline(always)]
     pub fn entry(&self) -> Entry
         ensures { IsEntry self.now result }

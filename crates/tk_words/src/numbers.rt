@@ -1,4 +1,4 @@
-//! Numbers: integers, decimals, and what a token is where a number is wanted.
+//! Numbers: integers, decimals, and how a token is read where a number is expected.
 pub mod decimals;
 pub mod entries;
 pub mod integers;

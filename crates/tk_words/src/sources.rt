@@ -1,4 +1,4 @@
-//! Texts from a source: where bytes come from, what takes them, and the loop between the two.
+//! Texts from a source: sources, readers, and the loop between the two.
 pub mod reading;
 pub mod source;
 pub mod text_reader;

@@ -11,7 +11,7 @@ use crate::fault::TextKind;
 use crate::numbers::integers::natural;
 use tk_problem::{COORDINATE_LIMIT, SCALE};
 
-/// The greatest magnitude of a coordinate, in billionths.
+/// Maximum magnitude of a coordinate, in billionths.
 const LIMIT: u64 = COORDINATE_LIMIT * SCALE as u64;
 
 /// The powers of ten up to the limit.
@@ -37,7 +37,7 @@ const POWERS_OF_TEN: [u64; 19] = [
     1_000_000_000_000_000_000,
 ];
 
-/// The digits that bytes begin with, and what comes after them.
+/// The digits at the front of these bytes, and the bytes after them.
 fn split_digits(bytes: &[u8]) -> (&[u8], &[u8])
     ensures digits { result.0.now ≡ front is_ascii_digit bytes.now }
     ensures rest { result.1.now ≡ behind is_ascii_digit bytes.now }
@@ -49,7 +49,7 @@ fn split_digits(bytes: &[u8]) -> (&[u8], &[u8])
     bytes.split_at(end)
 }
 
-/// The digits after a point, and what comes after them.
+/// The digits after a point, and the bytes after them.
 fn split_fraction(bytes: &[u8]) -> (&[u8], &[u8])
     ensures digits { result.0.now ≡ Decimal.fraction bytes.now }
     ensures rest { result.1.now ≡ Decimal.behind_fraction bytes.now }
@@ -60,7 +60,7 @@ fn split_fraction(bytes: &[u8]) -> (&[u8], &[u8])
     }
 }
 
-/// The number of `number`'s digits with more after them, and `None` over the limit.
+/// The number that the digits of `number`, followed by these digits, spell; `None` if it exceeds the limit.
 fn append_digits(number: u64, digits: &[u8]) -> Option<u64>
     requires limit { number ≤ LIMIT }
     requires digits { All IsAsciiDigit digits.now }
@@ -76,7 +76,7 @@ fn append_digits(number: u64, digits: &[u8]) -> Option<u64>
     Some(number)
 }
 
-/// The number of `number`'s digits with zeros after them, and `None` over the limit.
+/// The number that the digits of `number`, followed by zeros, spell; `None` if it exceeds the limit.
 fn append_zeros(number: u64, zeros: usize) -> Option<u64>
     ensures { let appended = number * 10 ^ zeros in SomeIff result (appended ≤ LIMIT) appended }
 {
@@ -93,8 +93,7 @@ fn append_zeros(number: u64, zeros: usize) -> Option<u64>
     Some(appended)
 }
 
-/// The number that the first `count` digits spell, with zeros where there are fewer, and `None`
-/// over the limit.
+/// The number that the first `count` digits spell, with zeros if there are fewer; `None` if it exceeds the limit.
 fn first_digits(whole: &[u8], fraction: &[u8], count: usize) -> Option<u64>
     requires whole { All IsAsciiDigit whole.now }
     requires fraction { All IsAsciiDigit fraction.now }
@@ -109,7 +108,7 @@ fn first_digits(whole: &[u8], fraction: &[u8], count: usize) -> Option<u64>
     append_zeros(number, count - in_whole - in_fraction)
 }
 
-/// The number that 1 to 3 digits spell, and `None` for other bytes.
+/// The number that 1 to 3 digits spell; `None` for other bytes.
 fn small(bytes: &[u8]) -> Option<usize>
     ensures value { result ≡ Decimal.small bytes.now }
     ensures bound { IfSome result (λ n. n < 10 ^ 18) }
@@ -120,7 +119,7 @@ fn small(bytes: &[u8]) -> Option<usize>
     Some(natural(bytes)? as usize)
 }
 
-/// The powers of ten up and down of nothing or an exponent, and `None` for other bytes.
+/// The powers of ten by which an optional exponent multiplies and divides; `None` for other bytes.
 fn exponent(bytes: &[u8]) -> Option<(usize, usize)>
     ensures value { result ≡ Decimal.exponent bytes.now }
     ensures bound { IfSome result (λ e. (e.0 < 10 ^ 18) × (e.1 < 10 ^ 18)) }
@@ -134,7 +133,7 @@ fn exponent(bytes: &[u8]) -> Option<(usize, usize)>
     }
 }
 
-/// A number without its sign, rounded down.
+/// A number without its sign, in billionths, rounded down.
 fn billionths(bytes: &[u8]) -> Result<i64, TextKind>
     requires { length bytes.now ≤ 64 }
     ensures value { result ≡ Decimal.limited (option_map pos (Decimal.billionths bytes.now)) }
@@ -155,9 +154,8 @@ fn billionths(bytes: &[u8]) -> Result<i64, TextKind>
     }
 }
 
-/// A decimal number in billionths, rounded towards zero: an optional sign, digits with at most
-/// one point, and an optional exponent. `BadNumber` for other bytes, `OutOfLimit` where the
-/// magnitude is over 10^9.
+/// A decimal number in billionths, rounded towards zero: an optional sign, digits with at most one point, and an
+/// optional exponent. `BadNumber` for other bytes, `OutOfLimit` if the rounded magnitude exceeds 10^9.
 pub fn decimal(bytes: &[u8]) -> Result<i64, TextKind>
     requires { length bytes.now ≤ 64 }
     ensures value { result ≡ Decimal.limited (Decimal.decimal_of bytes.now) }

@@ -1,4 +1,4 @@
-//! What a token is where a number is wanted.
+//! How a token is read where a number is expected.
 ghost use Rattle.std.specs.Prelude.{◌≡◌, ◌<◌, ◌≤◌, length, pos, false, Some, None, IfSome};
 ghost use Rattle.tk_words.specs.Lex as Lex;
 ghost use Rattle.tk_words.specs.Words as Words;
@@ -10,20 +10,20 @@ use crate::held::{Held, letter};
 use crate::keyword::{Keyword, keyword_of};
 use crate::numbers::integers::integer;
 
-/// What a token is where a number is wanted.
+/// How a token is read where a number is expected.
 #[derive(Clone, Copy, PartialEq, Eq)]
 pub enum Entry {
     /// An integer.
     Number(i64),
     /// `EOF`, which ends a list.
     Eof,
-    /// Another word that begins lines: the list is cut short.
+    /// Another keyword: the list is cut short.
     Word,
     /// None of these.
     Other,
 }
 
-/// Whether bytes are an integer of the value -1.
+/// Whether these bytes are an integer that equals -1.
 pub fn minus_one(bytes: &[u8]) -> bool
     ensures { result ≡ is_minus_one (Lex.integer bytes.now) }
 {
@@ -33,7 +33,7 @@ pub fn minus_one(bytes: &[u8]) -> bool
     }
 }
 
-/// Whether bytes are -1, or become -1 with a 1 after them.
+/// Whether these bytes are -1, or become -1 if a 1 follows them.
 pub fn begins_minus_one(held: &Held<64>) -> bool
     requires room { length held.now < 64 }
     ensures { result ≡ begins_minus_one held.now }
@@ -41,7 +41,7 @@ pub fn begins_minus_one(held: &Held<64>) -> bool
     minus_one(held.as_slice()) || minus_one(held.followed_by(b'1').as_slice())
 }
 
-/// A number, where it is within limits.
+/// A number that is within limits; `None` for another one.
 pub fn limited(number: i64, low: u32, high: u32) -> Option<u32>
     ensures some { IfSome result (λ n. (number ≡ pos n) × (low ≤ n) × (n ≤ high)) }
     ensures none { result ≡ None → Tokens.in_range low high (Some number) ≡ false }
@@ -66,7 +66,7 @@ fn without_colon(bytes: &[u8]) -> &[u8]
     bytes
 }
 
-/// Whether bytes begin as every word does.
+/// Whether these bytes begin with a letter, as every keyword does.
 fn begins_word(bytes: &[u8]) -> bool
     ensures { result ≡ Words.begins_word bytes.now }
 {
@@ -76,18 +76,18 @@ fn begins_word(bytes: &[u8]) -> bool
     }
 }
 
-/// The word that a token is, with or without a colon at its end.
+/// The keyword that a token spells, with or without a colon at its end.
 pub fn keyword_in(bytes: &[u8]) -> Option<Keyword>
     ensures { result ≡ Words.keyword_of (Tokens.without_colon bytes.now) }
 {
-    // Most tokens are numbers.
+    // Most tokens are numbers, which are not compared with the keywords.
     if !begins_word(bytes) {
         return None;
     }
     keyword_of(without_colon(bytes))
 }
 
-/// What a token is where a number is wanted.
+/// How a token is read where a number is expected.
 pub fn entry_of(bytes: &[u8]) -> Entry
     ensures { IsEntry bytes.now result }
 {

@@ -1,9 +1,9 @@
-//! Whole numbers.
+//! Integers.
 ghost use Rattle.std.specs.Prelude.{◌≡◌, ◌^◌, ◌<◌, pos, IfSome};
 ghost use Rattle.std.specs.Int.RustNames.{unsigned_abs};
 ghost use Rattle.tk_words.specs.Lex as Lex;
 
-/// The number that 1 to 18 digits spell, and `None` for other bytes.
+/// The number that 1 to 18 digits spell; `None` for other bytes.
 pub(crate) fn natural(bytes: &[u8]) -> Option<i64>
     ensures value { result ≡ Lex.signed pos (Lex.natural bytes.now) }
     ensures bound { IfSome result (λ n. unsigned_abs n < 10 ^ 18) }
@@ -21,7 +21,7 @@ pub(crate) fn natural(bytes: &[u8]) -> Option<i64>
     Some(number as i64)
 }
 
-/// The number that an optional sign and 1 to 18 digits spell, and `None` for other bytes.
+/// The number that an optional sign and 1 to 18 digits spell; `None` for other bytes.
 pub fn integer(bytes: &[u8]) -> Option<i64>
     ensures { result ≡ Lex.integer bytes.now }
 {

@@ -1,18 +1,18 @@
-//! Bytes of a source, a buffer at a time, to what reads a text.
+//! Passes the bytes of a source to a reader, one buffer at a time.
 ghost use Rattle.std.specs.Prelude.{◌≡◌, ℕ, ◌+◌, ◌<◌, ◌≤◌, ◌^◌, false, List, [], length, Ok};
 ghost use Rattle.tk_words.specs.Reading.{HasTakenPiece, IsReading};
 
 use crate::sources::source::Source;
 use crate::sources::text_reader::{Step, TextReader};
 
-/// The most bytes that a source is asked for at once.
+/// Maximum number of bytes that a source is asked for at once.
 pub const BUFFER_SIZE: usize = 8192;
 
-/// Takes the bytes of a piece, as far as they are needed, and says whether they make the text whole. `count` bytes
-/// stand before it.
+/// Passes a piece to a reader, as far as it is needed, and returns whether the text is complete. `count` bytes come
+/// before the piece.
 ///
 /// # Errors
-/// The fault that the reader finds, and that of a text which is too long at the first byte past the limit.
+/// The fault that the reader finds, or that of a text that is too long, at the first byte past the limit.
 pub fn feed_piece<P: TextReader>(
     reader: &mut P,
     piece: &[u8],
@@ -43,11 +43,11 @@ pub fn feed_piece<P: TextReader>(
     }
 }
 
-/// Reads a text from a source, a buffer at a time, as long as what was read wants more. A value is what some text says,
-/// and so is a fault of the text, also where the source does not tell its bytes.
+/// Reads a text from a source, one buffer at a time, until the reader needs no more. Even if the source does not
+/// specify its bytes, the value or the fault is that of some text.
 ///
 /// # Errors
-/// The fault that the reader finds; that of a text which is longer than its limit; and its `cut_off` if the source
+/// The fault that the reader finds; that of a text that exceeds its limit; and `cut_off` of the reader if the source
 /// fails.
 pub fn read_text<R: Source, P: TextReader>(source: &mut R, reader: P) -> Result<P::Out, P::Fault>
     requires { P.fed reader [] }

@@ -1,47 +1,47 @@
-//! What takes the bytes of a text.
+//! Readers, which take the bytes of a text.
 ghost use Rattle.std.specs.Prelude.{◌≡◌, ℕ, ◌+◌, ◌≤◌, ◌<◌, ◌^◌, false, List, length, None};
 ghost use Rattle.tk_words.specs.Texts.{Texts, OfSource, OfText, line_behind};
 ghost use Rattle.tk_words.specs.Taking.{HasTaken, HasEnded};
 
-/// How far a reader has come with the bytes that it was given.
+/// The result of passing bytes to a reader.
 #[derive(Clone, Copy, Debug, PartialEq, Eq)]
 pub enum Step {
-    /// It has taken so many of them, and the text goes on.
+    /// The reader has taken this many of them, and the text continues.
     Taken(usize),
-    /// They make the text whole.
+    /// They complete the text.
     Done,
 }
 
-/// What takes the bytes of a text.
+/// Reads a text from its bytes.
 pub trait TextReader: Drop {
-    /// What it reads.
+    /// The value that it reads.
     type Out;
 
-    /// Why it refuses a text.
+    /// The fault of a text that it rejects.
     type Fault: Copy;
 
-    /// What a contract sees of what it reads.
+    /// The type of the value in contracts.
     ghost Value: { Type 0 };
 
-    /// What is seen of it.
+    /// The value as contracts see it.
     ghost view: { Self.Out → Value };
 
     /// The texts that it reads.
     ghost texts: { Texts Value Self.Fault };
 
-    /// Holds where it has taken these bytes, and they decide nothing.
+    /// True if the reader has taken these bytes, and they do not decide the answer.
     ghost fed: { Self → List ℕ → Type 0 };
 
-    /// What it holds.
+    /// The value that it has stored.
     ghost held: { Self → Value };
 
-    /// Holds where it has all that a value is made of.
+    /// True if that value is complete.
     ghost complete: { Self → Type 0 };
 
-    /// Takes bytes that follow: at least one of them, if they do not show that the text ends or is refused.
+    /// Takes the next bytes: at least one of them, unless they complete the text or contain a fault.
     ///
     /// # Errors
-    /// The fault that the bytes up to some of these show.
+    /// The fault that the text contains, up to one of these bytes.
     fn feed(&mut self, bytes: &[u8]) -> Result<Step, Self::Fault>
         requires some { 1 ≤ length bytes.now }
         requires room { (before : List ℕ) × fed self.old before × (length before + length bytes.now ≤ 2 ^ 63) }
@@ -56,27 +56,27 @@ pub trait TextReader: Drop {
         requires { (before : List ℕ) × fed self before }
         ensures { (before : List ℕ) → fed self before → HasEnded texts view before result };
 
-    /// What was read, once all of the text is there.
+    /// The value that was read, once the text is complete.
     fn value(self) -> Self::Out
         requires { complete self }
         ensures { view result ≡ held self };
 
-    /// The most bytes of a text.
+    /// Maximum number of bytes of a text.
     fn limit(&self) -> u64
         ensures { (result ≡ texts.limit) × (result < 2 ^ 63) };
 
-    /// The fault of a text whose limit is before the byte for which it waits.
+    /// The fault of a text whose next byte exceeds the limit.
     fn too_long(&self) -> Self::Fault
         ensures { (before : List ℕ) → fed self.now before → result ≡ texts.too_long (line_behind before) };
 
-    /// The fault where the source fails before the byte for which it waits.
+    /// The fault if the source fails before the next byte.
     fn cut_off(&self) -> Self::Fault
         ensures cause { texts.cause result ≡ OfSource }
         ensures line { (before : List ℕ) → fed self.now before → texts.line_of result ≡ line_behind before };
 
-    /// A text that is too long is at fault itself.
+    /// The fault of a text that is too long is one of the text itself.
     ghost too_long_told: { (line : ℕ) → texts.cause (texts.too_long line) ≡ OfText };
 
-    /// It waits for more: what it has taken decides nothing.
+    /// The reader needs more bytes: those that it has taken do not decide the answer.
     ghost waits: { (reader : Self) (before : List ℕ) → fed reader before → texts.decided false before ≡ None };
 }
