@@ -70,8 +70,8 @@ impl<F: Form> PieceReader<F> {
     /// Takes a whole token of a section.
     ///
     /// # Errors
-    /// The fault that the form finds in the token, or at the end of the text if the token is `EOF`, on the current
-    /// line.
+    /// The fault that the form finds in the token; if the token is `EOF`, the fault at the end of the text. Both are on
+    /// the current line.
     #[inline(always)]
     pub(crate) fn take_token(&mut self, token: &Lexeme) -> Result<Flow, TextFault>
         requires short { length token.now ≤ 64 }

@@ -101,8 +101,8 @@ impl TextReader for SolutionReader {
     }
 }
 
-/// Reads a solution text, no further than its result requires. Every text that begins with the bytes read has this
-/// result, except for `Read`, if the source fails, and `NoMemory`.
+/// Reads a solution text, no further than its result requires. If it is not read to its end, every text that begins
+/// with the bytes read has this result, except for `Read`, if the source fails, and `NoMemory`.
 ///
 /// # Errors
 /// The first fault of the text, with its line; `Read` if the source fails before the result is known, and `NoMemory` if

@@ -59,8 +59,8 @@ impl SolutionForm {
     /// Takes a customer of the route.
     ///
     /// # Errors
-    /// `BadNumber` if the token is not an integer, `OutOfLimit` if it does not fit into 32 bits or follows 1,000,000
-    /// customers, and `NoMemory` if memory runs out.
+    /// `BadNumber` if the token is not an integer; `OutOfLimit` if it does not fit into 32 bits, or follows 1,000,000
+    /// customers; `NoMemory` if memory runs out.
     pub fn take_customer(&mut self, bytes: &[u8]) -> Result<(), TextKind>
         requires { length bytes.now ≤ 64 }
         ensures ok { TakesCustomer bytes.now self.old self.new result }

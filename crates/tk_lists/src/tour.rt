@@ -172,8 +172,8 @@ impl Form for TourForm {
     }
 }
 
-/// Reads a tour text, no further than its result requires. Every text that begins with the bytes read has this result,
-/// except for `Read`, if the source fails, and `NoMemory`.
+/// Reads a tour text, no further than its result requires. If it is not read to its end, every text that begins with
+/// the bytes read has this result, except for `Read`, if the source fails, and `NoMemory`.
 ///
 /// # Errors
 /// The first fault of the text, with its line; `Read` if the source fails before the result is known, and `NoMemory` if

@@ -72,8 +72,8 @@ fn has_dollar(key: Key, value: &[u8]) -> bool
 /// Takes a key and its value.
 ///
 /// # Errors
-/// `RepeatedKey` for a key that has occurred before, `DollarInName` for a file name with a `$`, `NoMemory` if memory
-/// runs out, and the faults of `setting_of`.
+/// `RepeatedKey` for a key that has occurred before; `DollarInName` for a file name with a `$`; `NoMemory` if memory
+/// runs out; and the faults of `setting_of`.
 pub fn take_key(
     alloc: Global,
     settings: &mut Settings,

@@ -199,7 +199,8 @@ impl TextReader for ParamReader {
 
 /// Reads a parameter file of at most 1,048,576 bytes, in lines of at most 4,096, no further than its result requires.
 ///
-/// Every text that begins with the bytes read has this result, except for `Read` and `NoMemory`.
+/// If the file is not read to its end, every text that begins with the bytes read has this result, except for `Read`
+/// and `NoMemory`.
 ///
 /// # Errors
 /// The first fault of the text, with its line; `Read` if the source fails, and `NoMemory` if memory runs out.

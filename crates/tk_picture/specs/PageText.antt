@@ -24,7 +24,7 @@ use Rattle.tk_picture.specs.PictureText.{picture_text, spot, title, title_line}
 abbrev pub heading : List ℕ → List ℕ
 heading name = line (codes "<h1><bdi>" ++ shown_name name ++ codes "</bdi></h1>")
 
--- the caption of the picture, which has the words of the checks
+-- the caption of the picture, in the words that the checks print
 abbrev pub verdict : ℕ → Drawing → List ℕ
 verdict n drawing = line (codes "<p id=\"verdict\">" ++ caption_of n drawing ++ codes "</p>")
 

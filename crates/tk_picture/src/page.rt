@@ -29,7 +29,7 @@ fn put_heading<W: Sink>(pen: &mut Pen<'_, W>, name: &[u8])
     pen.put(b"</bdi></h1>\n");
 }
 
-/// Writes the caption of the picture, which has the words of the checks.
+/// Writes the caption of the picture, in the words that the checks print.
 fn put_verdict<W: Sink>(pen: &mut Pen<'_, W>, picture: &Picture<'_>)
     ensures { Puts W.Sink pen.old pen.new
         (verdict (city_count picture.now.view) (drawing_of picture.now.subject)) }

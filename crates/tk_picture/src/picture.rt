@@ -82,7 +82,7 @@ fn put_group_start<W: Sink>(pen: &mut Pen<'_, W>, frame: &Frame)
     pen.put_wide(frame.drawn_from_top());
 }
 
-/// Writes the line before the lines and the points.
+/// Writes the line that begins the group of lines and points.
 fn put_group_line<W: Sink>(pen: &mut Pen<'_, W>, frame: &Frame, cities: u32)
     ensures { Puts W.Sink pen.old pen.new (group_line frame.now cities) }
 {

@@ -27,7 +27,7 @@ HaveEnds p i j =
     (at p.other.items i < vec_len p.one) × (at p.other.items j < vec_len p.one)
     × (at p.other.items i ≢ at p.other.items j)
 
--- the paths of i and j are joined: the other end of each becomes the other end of the other's
+-- the paths of i and j are joined: their far ends become the ends of one path
 abbrev pub EndsMeet : ℕ → ℕ → Paths → Paths → Type 0
 EndsMeet i j old new =
     IsSetAt (at old.other.items i) (at old.other.items j) (at old.other.items j) (at old.other.items i)

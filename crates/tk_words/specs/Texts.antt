@@ -118,8 +118,8 @@ pub record IsReadTo {V E : Type 0} (texts : Texts V E) (text rest : List ℕ) : 
   pub wanted : WantMore texts before
   pub buffer : length last ≤ BUFFER_SIZE
 
--- the answer of a reader is that of the text, of which `rest` was not read; if there is such a rest, it is the answer
--- to every text that begins with the bytes read
+-- the answer of a reader is that of the text, of which `rest` was not read; if `rest` is not empty, every text that
+-- begins with the bytes read has this answer
 pub record IsAnswer {V E : Type 0} (texts : Texts V E) (text rest : List ℕ) (a : Result V E) : Type 0 where
   pub read : IsReadTo texts text rest
   pub answer : answer_of texts text ≡ a

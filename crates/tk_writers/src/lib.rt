@@ -1,5 +1,5 @@
 //! Output: sinks, pens that write a text piece by piece, and writers of matrices, tours and solutions, with proofs that
-//! the texts of these can be read back.
+//! their texts can be read back.
 #![tactic(auto)]
 
 mod matrix;

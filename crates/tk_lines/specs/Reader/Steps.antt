@@ -1,10 +1,8 @@
 -- The steps of a reader: how it takes bytes, and how it ends a word, a token and the text, whatever bytes it took
 -- before.
---     HasCome p next new bs result      the state after these bytes, which are taken, complete the text, or have a
---         fault
+--     HasCome p next new bs result      the state after these bytes: they are taken, complete the text, or have a fault
 --     TakesByte, TakesSettled, TakesWhole, TakesRun      a byte; one that ends nothing; a token and a byte; tokens
---     Closes, ClosesPlace, ClosesHeader, EndsToken      the end of a word or token; in any state; of a header; of a
---         token
+--     Closes, ClosesPlace, ClosesHeader, EndsToken      the end of what is open; in any state; of a header; of a token
 --     Finishes p old new result      the end of the text
 use Rattle.std.specs.Prelude.{◌≡◌, ℕ, ◌≤◌, Bool, true, false, not, ◌||◌, ◌==◌, List, [], ◌∷◌, ◌++◌, length, take, Some}
 use Rattle.std.specs.Prelude.{None, Result, Ok, Err}

@@ -154,8 +154,8 @@ fn take_from_leaf(row: &mut Vec<Placed>, p: &Placed) -> Option<Rest>
     Some(Rest::of(row.is_empty()))
 }
 
-/// Removes the city `here` from a tree, looking at the end of the path `sides` first, and passes the near ones of the
-/// other cities to `keeper`. Returns whether cities are left; `None` if `here` was not there.
+/// Removes the city `here` from a tree, looking at the end of the path `sides` first. Passes the near ones of the other
+/// cities to `keeper`, and returns whether cities are left; `None` if `here` was not there.
 #[cycle(take_from)]
 fn take_from<P: BothAxes, K: Keeper>(
     m: &P,
@@ -217,8 +217,8 @@ fn take_from<P: BothAxes, K: Keeper>(
     }
 }
 
-/// Removes the city `here` from the first of two halves, or otherwise from the second, and passes the near ones of the
-/// other cities to `keeper`. Returns whether cities are left; `None` if `here` was not there.
+/// Removes the city `here` from the first of two halves, or otherwise from the second. Passes the near ones of the
+/// other cities to `keeper`, and returns whether cities are left; `None` if `here` was not there.
 #[cycle(take_from)]
 #[inline(always)]
 fn take_from_halves<P: BothAxes, K: Keeper>(

@@ -107,7 +107,7 @@ impl Frame {
         }
     }
 
-    /// A lower bound of the difference in x or in y between `here` and each city of the box.
+    /// A lower bound of the larger difference, in x or in y, between `here` and each city of the box.
     #[inline(always)]
     fn gap(&self, here: &Placed) -> u64
         ensures limit { result ≤ reach }

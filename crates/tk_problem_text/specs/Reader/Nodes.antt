@@ -8,7 +8,7 @@ use Rattle.std.specs.Prelude.{◌≡◌, ◌<◌, ◌+◌, ℕ, suc, Bool, false
 use Rattle.std.specs.List.{range_with_len}
 use Rattle.tk_words.specs.Lex.{Token}
 
--- for each node whether it has been named, and the number of nodes that have not
+-- for each node whether it has been named, and the number of nodes that have not been
 pub record Named : Type 0 where
   pub flags : List Bool
   pub left : ℕ

@@ -21,7 +21,7 @@ abbrev pub depot_entries : List Token → List Token
 depot_entries [] = []
 depot_entries (t ∷ ts) = t ∷ list_entries ts
 
--- the stop at the end of the list: Truncated if it ends without a node
+-- the stop at the end of the list: Truncated if it ends without a node, TrailingData if more data is on its last line
 abbrev pub depot_end : List Token → After → Option Stop
 depot_end [] after = fixed_end after
 depot_end (t ∷ ts) after = trailing_stop after

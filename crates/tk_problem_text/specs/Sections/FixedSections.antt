@@ -26,7 +26,8 @@ abbrev pub fixed_extent : ℕ → List Token → Extent
 fixed_extent count toks =
     record { count = min count (length toks); closed = nat_le count (length toks); at_eof = false }
 
--- the stop at the end of the tokens: Truncated if there are too few and no more can follow
+-- the stop at the end of the tokens: Truncated if there are too few and no more can follow, TrailingData if more data
+-- is on their last line
 abbrev pub fixed_end : After → Option Stop
 fixed_end (Early line whole) = if whole then Some (Fault line kinds.Truncated) else None
 fixed_end after = trailing_stop after
