@@ -1,6 +1,6 @@
-# What the run.sh of the benchmarks share. Each sets $here to its directory before it sources this.
+# Functions that the run.sh scripts of the benchmarks share. Each script sets $here to its directory before it sources this file.
 
-# Compiles the twin, which is twin.rs here or in another directory: it sets $work to a directory outside the repository, and $twin.
+# Compiles the baseline, twin.rs in $here or in another directory. Sets $work to a directory outside the repository, and $twin.
 compile_twin() {
     work=${TMPDIR:-/tmp}/tourkit-bench-$(basename "$here")
     mkdir -p "$work"
@@ -8,7 +8,7 @@ compile_twin() {
     rustc --edition 2024 -C opt-level=3 --check-cfg 'cfg(segments)' -o "$twin" "${1:-$here}/twin.rs"
 }
 
-# Finds the program of the crate tk_bench, which `rt run` proves and builds, and compiles the twin: it sets $program, $work and $twin.
+# Finds the program of the crate tk_bench, which `rt run` proves and builds, and compiles the baseline. Sets $program, $work and $twin.
 find_programs() {
     program=$here/../../crates/tk_bench/out/tk_bench
     if [ ! -x "$program" ]; then
@@ -18,7 +18,7 @@ find_programs() {
     compile_twin
 }
 
-# Runs a command: its processor time (user and system) in seconds, with what it prints in the files NAME.out and NAME.err of $work.
+# Runs a command and prints its processor time (user and system) in seconds. Its output goes to the files NAME.out and NAME.err of $work.
 # usage: processor_time NAME COMMAND ..
 processor_time() {
     local name=$1 TIMEFORMAT='%3U %3S'
@@ -27,7 +27,7 @@ processor_time() {
     awk '{ printf "%.3f\n", $1 + $2 }' "$work/time"
 }
 
-# The least of the times in a file.
+# Prints the shortest of the times in a file.
 least() {
     sort -g "$1" | head -1
 }

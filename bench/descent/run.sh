@@ -1,7 +1,8 @@
 #!/bin/sh
-# Times a descent from a way along strips of uniform cities (phase 1, K = 5), and then one look at each city of the result (phase 2),
-# against plain Rust at -O3 that computes each gain's distances anew (plain) or shares them inside a look (sharing).
-# Each line: cities, phase, million gain tests a second of each, and how many times those of the twins the program makes; the best of all rounds.
+# Times a descent from a path along strips of uniform cities (phase 1, K = 5), and then one look at each city of the result (phase 2).
+# Compares them with plain Rust at -O3 that computes the distances of each gain again (plain) or shares them inside a look (sharing).
+# Each line contains the cities, the phase, million gain tests per second of each, and the ratios of the program to the two baselines.
+# The rates are the best of all rounds.
 # usage: bench/descent/run.sh [ROUNDS]
 set -e
 here=$(cd "$(dirname "$0")" && pwd)

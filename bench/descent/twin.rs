@@ -1,5 +1,5 @@
-//! The descent in plain Rust: each gain from four or six distances computed anew, or with what a look shares computed once.
-//! Distances by the square root of the processor.
+//! A descent in plain Rust: each gain is computed from four or six distances, or the distances that a look shares are computed once.
+//! Distances use the square root of the processor.
 
 use std::collections::VecDeque;
 use std::time::Instant;

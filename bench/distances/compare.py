@@ -1,4 +1,4 @@
-"""Prints the least times of two programs side by side, and ends with status 1 where sums of distances differ."""
+"""Prints the shortest times of two programs side by side, and ends with status 1 if sums of distances differ."""
 
 import sys
 

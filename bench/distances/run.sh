@@ -1,6 +1,6 @@
 #!/bin/sh
-# Times distances of EUC_2D, CEIL_2D and ATT, of whole coordinates, of tenths and thousandths, and of nine decimals, against plain Rust at
-# -O3, at spans from 10 to 10^9.
+# Times distances of EUC_2D, CEIL_2D and ATT against plain Rust at -O3: with integer coordinates, with tenths and thousandths, and with
+# nine decimals, at spans from 10 to 10^9.
 # usage: bench/distances/run.sh [ROUNDS]
 set -e
 here=$(cd "$(dirname "$0")" && pwd)

@@ -1,5 +1,5 @@
-//! The same distances in plain Rust, with the square root of the floating-point unit: the exact ones, and for
-//! comparison the usual ones without a test that they are exact (`naive`).
+//! Distances in plain Rust, with the square root of the floating-point unit: exact ones, and for comparison the usual ones without a
+//! test that they are exact (`naive`).
 use std::hint::black_box;
 use std::time::Instant;
 

@@ -1,4 +1,4 @@
-//! The same lists and tours by a k-d tree in plain Rust, to compare with (J. L. Bentley, 1975).
+//! Near lists and nearest-neighbour tours by a k-d tree in plain Rust (J. L. Bentley, 1975).
 use std::time::Instant;
 
 const CITIES: u32 = 100_000;

@@ -1,10 +1,11 @@
 #!/bin/bash
-# Times how fast `tourkit check` reads matrices and coordinates, against a twin in plain Rust that checks the same, and compares their lines.
+# Times how fast `tourkit check` reads matrices and coordinates, against a baseline in plain Rust that makes the same checks (the twin), and
+# compares their lines.
 #
 # usage: bench/reading/run.sh [-n ROUNDS] TOURKIT
 #
-# The table has, for each problem, the least processor time (user and system) of all rounds, 7 by default, in seconds, with the megabytes of
-# problem and tour that are read in a second, and the ratio of tourkit's time to the twin's.
+# For each problem, the table contains the shortest processor time (user and system) of all rounds, 7 by default, in seconds. It also
+# contains the megabytes of problem and tour that are read per second, and the ratio of tourkit's time to that of the twin.
 set -eu
 here=$(cd "$(dirname "$0")" && pwd)
 . "$here/../programs.sh"

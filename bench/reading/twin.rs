@@ -1,9 +1,9 @@
 //! `tourkit check` in plain Rust: it reads the same files, with the same checks, and prints the same line.
 //!
 //! usage: twin check PROBLEM TOUR
-//!        twin instances FOLDER
+//!        twin instances DIR
 //!
-//! The second writes the problems that run.sh reads, each NAME.tsp with a tour NAME.tour, into a folder.
+//! The second form writes the problems that run.sh reads, each NAME.tsp with a tour NAME.tour, to a directory.
 
 #[allow(dead_code)]
 #[path = "../solve/text.rs"]

@@ -1,9 +1,9 @@
 #!/usr/bin/env python3
-"""Runs two programs in turn on each parameter file of the current folder, and prints their times beside each other.
+"""Runs two programs in turn on each parameter file of the current directory, and prints their times side by side.
 
 usage: compare.py ROUNDS TWIN [TOURKIT]
 
-The twin runs twice: as it is, and with --whole.
+The twin runs twice: without options, and with --whole.
 """
 import glob
 import os

@@ -1,9 +1,9 @@
 #!/usr/bin/env python3
-"""Writes problems of uniform customers round a uniform depot, and parameter files for them, into a folder.
+"""Writes problems of uniform customers around a uniform depot, and parameter files for them, to a directory.
 
-usage: instances.py FOLDER
+usage: instances.py DIR
 
-Demands are 1 to 100 and a vehicle holds 1,000, so a route has about 20 customers. Each problem is solved with 5 candidates and with 100.
+Demands are 1 to 100 and the capacity is 1,000, so a route has about 20 customers. Each problem is solved with 5 candidates and with 100.
 """
 import os
 import sys

@@ -1,12 +1,14 @@
 #!/bin/bash
-# Times `tourkit solve` against its twin in plain Rust on CVRPs of 1,000 and 5,000 nodes, and compares what they write.
+# Times `tourkit solve` against its baseline in plain Rust (the twin) on CVRPs of 1,000 and 5,000 nodes, and compares what they write.
 #
 # usage: bench/routes/run.sh [-n ROUNDS] [TOURKIT]
 #
-# TOURKIT is a program that has the command solve; without one the twin alone is timed. The twin is that of bench/solve: savings merges over
-# near lists by a k-d tree, in constant time for each pair, and then one descent for each route. The table has the least processor time
-# (user and system) of all rounds, 20 by default, in milliseconds; the name of an input ends in its MAX_CANDIDATES. The twin is timed twice:
-# with distances by the processor's roots, and (whole) by exact roots of whole numbers, as in tourkit.
+# TOURKIT is a program with the command solve; without it, only the twin is timed. The twin is that of bench/solve. It joins routes by the
+# savings algorithm over near lists from a k-d tree, in constant time for each pair, and then makes one descent for each route.
+#
+# The table contains the shortest processor time (user and system) of all rounds, 20 by default, in milliseconds. The name of an input ends
+# in its MAX_CANDIDATES. The twin is timed twice: with the square roots of the processor, and (whole) with exact roots of integers, as in
+# tourkit.
 set -eu
 here=$(cd "$(dirname "$0")" && pwd)
 . "$here/../programs.sh"

@@ -1,6 +1,6 @@
 #!/bin/sh
-# Times savings_tour and savings_lists (100,000 cities, near lists of 5 and 10) and a twin in plain Rust, and tells whether they
-# give the same cities. Each line: the box, its near lists, then the microseconds of both.
+# Times savings_tour and savings_lists (100,000 cities, near lists of 5 and 10) and a baseline in plain Rust, and reports whether they give
+# the same cities. Each line contains the box, its near lists, and the microseconds of both.
 # usage: bench/savings/run.sh
 set -e
 here=$(cd "$(dirname "$0")" && pwd)

@@ -1,4 +1,4 @@
-//! The same merges in plain Rust, to compare with: union by names in place of path ends.
+//! The savings algorithm in plain Rust, with union by names instead of path ends.
 use std::cmp::Reverse;
 use std::time::Instant;
 

@@ -1,8 +1,9 @@
 #!/bin/sh
-# Times the first trial of a search from a way along strips of uniform cities (phase 1, K = 5), and then trials that begin with a kick
-# (phase 2), against plain Rust at -O3 that goes by the same method.
-# Each line: cities, phase, trials a second of each, and how many times the twin's time the program takes; the best of all rounds.
-# Both must make the same moves, tests and swaps, as often find a better tour, and gain as much.
+# Times the first trial of a search from a path along strips of uniform cities (phase 1, K = 5), and then trials that begin with a kick
+# (phase 2), against plain Rust at -O3 that uses the same method (the twin).
+# Each line contains the cities, the phase, the trials per second of each, and the ratio of the program's time to that of the twin. The
+# times are the best of all rounds. Both programs must make the same moves, tests and swaps, the same number of improvements, and the same
+# gain.
 # usage: bench/search/run.sh [ROUNDS]
 set -e
 here=$(cd "$(dirname "$0")" && pwd)

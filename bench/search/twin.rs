@@ -1,6 +1,6 @@
 //! The search in plain Rust, by the same method: looks that share distances, flips of the shorter side, a journal of flips that is undone
-//! where a trial is rejected, and kicks whose length is told by eight distances. Distances by the square root of the processor; whether
-//! an offer gains is told without a root.
+//! if a trial is rejected, and kicks whose length is computed from eight distances. Distances use the square root of the processor, but
+//! whether an offer has a gain is decided without a root.
 
 use std::collections::VecDeque;
 use std::ops::RangeInclusive;

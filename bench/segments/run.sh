@@ -1,8 +1,8 @@
 #!/bin/sh
-# Compares the time that the flips of trials take in an array with that in a tour that is seen through segments. A trial is a kick at
-# random cuts and 16 flips of cities that are at most 50 places apart.
-# Each line: cities, trials a second in an array, those with segments, and how many times as many they are; the best of all rounds.
-# Both must take the same swaps and end with the same tour. There is no twin.
+# Compares the time that the flips of trials take in an array with that in a tour that is divided into segments. A trial is a kick at random
+# cuts and 16 flips of cities that are at most 50 positions apart.
+# Each line contains the cities, the trials per second in an array, those with segments, and the ratio of the second rate to the first. The
+# rates are the best of all rounds. Both tours must make the same swaps and be equal at the end. There is no baseline in plain Rust.
 # usage: bench/segments/run.sh [ROUNDS]
 set -e
 here=$(cd "$(dirname "$0")" && pwd)

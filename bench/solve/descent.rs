@@ -1,7 +1,7 @@
-//! Looks at waking cities, and the moves that they find.
+//! Looks at the cities that are awake, and the moves that they find.
 //!
-//! An offer is looked for in two ways, with the same result: `look` tests all offers of a candidate at once, `look_in_order` one after
-//! another, as tourkit does.
+//! There are two ways to look for an offer, with the same result: `look` tests all offers of a candidate at once, and `look_in_order` tests
+//! them one after another, as tourkit does.
 
 use crate::metric::{Metric, Number};
 use crate::near::{Near, Neighbour};

@@ -1,9 +1,9 @@
 #!/usr/bin/env python3
-"""Writes problems of uniform and clustered cities, and parameter files for them, into a folder.
+"""Writes problems of uniform and clustered cities, and parameter files for them, to a directory.
 
-usage: instances.py FOLDER [DIVISOR]
+usage: instances.py DIR [DIVISOR]
 
-Numbers of trials are divided by DIVISOR.
+The numbers of trials are divided by DIVISOR.
 """
 import os
 import sys

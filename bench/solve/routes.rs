@@ -1,4 +1,4 @@
-//! Savings merges (G. Clarke and J. W. Wright, 1964), and routes that are improved one by one.
+//! The savings algorithm (G. Clarke and J. W. Wright, 1964), and the improvement of each route on its own.
 
 use crate::descent::{Counts, Rules, Waking};
 use crate::metric::{Metric, Number};

@@ -1,12 +1,14 @@
 #!/bin/bash
-# Times `tourkit solve` against its twins in plain Rust, and compares what they write.
+# Times `tourkit solve` against its baselines in plain Rust (the twins), and compares what they write.
 #
 # usage: bench/solve/run.sh [-n ROUNDS] [-s] [TOURKIT]
 #
-# TOURKIT is a program that has the command solve; without one the twin at its best stands in its place. The table has the least processor
-# time (user and system) of all rounds, 3 by default, in seconds, with the ratios to that of tourkit: of the twin that keeps the tour in an
-# array and goes by the same method; of the twin that sees it through segments and tests all offers of a candidate at once, with whole-number
-# roots; and of that twin at its best, with the processor's roots (see twin.rs). -s takes a hundredth of the trials.
+# TOURKIT is a program with the command solve; without it, the twin at its best is used instead. With -s, each input has a hundredth of the
+# trials. The table contains the shortest processor time (user and system) of all rounds, 3 by default, in seconds, of tourkit and of three
+# variants of the twin, with the ratios of tourkit's time to theirs:
+# - same-method: the tour is kept in an array, and the search uses the method of tourkit;
+# - whole: the tour is divided into segments, all offers of a candidate are tested at once, and square roots are those of integers;
+# - at-best: like whole, but with the square roots of the processor (see twin.rs).
 set -eu
 here=$(cd "$(dirname "$0")" && pwd)
 . "$here/../programs.sh"

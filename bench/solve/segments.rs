@@ -1,7 +1,8 @@
-//! A tour as an array that is seen through a few segments: long reversals turn segments round, short ones within a segment the array.
+//! A tour as an array that is divided into a few segments. Long reversals reverse segments as a whole; short ones within a segment reverse
+//! cities in the array.
 //!
-//! The array has physical places. Segments are ranges of them; in their sequence, each forwards or backwards, they give the cities at
-//! virtual places. The order that counts is read from virtual place `off` on, upwards or (where `down`) downwards, round the end.
+//! The array has physical positions. Segments are ranges of them; in their sequence, each forwards or backwards, they give the cities at
+//! virtual positions. The order of the tour begins at virtual position `off`, goes upwards (or downwards if `down`), and wraps around.
 
 use crate::store::{Moves, renumber, shift_cities};
 use crate::tour::{Sides, at};

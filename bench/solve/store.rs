@@ -1,4 +1,5 @@
-//! How the search keeps its tour: in an array, or with `--cfg segments` in one that is seen through segments. What both do alike.
+//! The store of the search's tour: an array, or with `--cfg segments` an array that is divided into segments. This file contains what the
+//! two have in common.
 
 use crate::tour::Offer;
 

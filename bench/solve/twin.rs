@@ -2,11 +2,14 @@
 //!
 //! usage: twin solve PAR [--times] [--as-given] [--whole] [--same-method]
 //!
-//! With --times a line of standard error tells how long each part took. With --as-given the search numbers cities as the problem does,
-//! and not by their places in the start. With --whole distances come from exact roots of whole numbers, as in tourkit; without it those of
-//! EUC_2D come from the processor's roots where these are exact. With --same-method the search does what tourkit's does: both of these,
-//! offers tested one after another until one gains, and segments of Or-moves moved by flips. Compiled with `--cfg segments`, the search sees
-//! its tour through segments, and else it keeps it in an array.
+//! - --times prints a line on standard error with the time of each part.
+//! - --as-given numbers the cities as in the problem, not by their positions in the starting tour.
+//! - --whole computes distances by exact roots of integers, as tourkit does. Without it, EUC_2D distances come from the roots of the
+//!   processor if these are exact.
+//! - --same-method searches as tourkit does: with --as-given and --whole, with offers that are tested one after another until one has a
+//!   gain, and with flips for the segments of Or-opt moves.
+//!
+//! Compiled with `--cfg segments`, the search divides its tour into segments; otherwise it keeps the tour in an array.
 
 mod descent;
 mod metric;

@@ -1,4 +1,4 @@
-//! The same loop in plain Rust.
+//! Swaps of two cities of a tour, in plain Rust.
 use std::time::Instant;
 
 struct ArrayTour {
