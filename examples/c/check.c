@@ -1,5 +1,5 @@
-/* Checks a tour against a problem, both given as files, as `tourkit check` does.
- * usage: check PROBLEM TOUR     the status is 0 for a tour, 1 for a list that is none, 2 for a faulty text, 3 otherwise */
+/* Checks a tour file against a problem file, as `tourkit check` does.
+ * usage: check PROBLEM TOUR     the status is 0 for a tour, 1 for a list that is not a tour, 2 for an invalid text, 3 otherwise */
 #include "tourkit.h"
 #include <stdio.h>
 #include <stdlib.h>

@@ -1,6 +1,6 @@
-/* Searches for a short tour of some cities in pieces, so that it can stop at any time: each piece begins with the tour of
- * the one before it, and has a seed of its own. Ctrl-C ends the search after the piece.
- * usage: pieces PIECES     searches in so many pieces, and prints the length after each and the last tour */
+/* Searches for a short tour of some cities in pieces, so that it can stop early: each piece starts from the tour of the
+ * piece before it, and has its own seed. Ctrl-C ends the search after the current piece.
+ * usage: pieces PIECES     searches in PIECES pieces, and prints a line for each and the last tour */
 #include "tourkit.h"
 #include <inttypes.h>
 #include <signal.h>
@@ -17,13 +17,13 @@ static void stop(int number) {
     stopped = 1;
 }
 
-/* A coordinate at random, below 1,024. */
+/* A random coordinate below 1,024. */
 static unsigned draw(uint32_t *state) {
     *state = *state * 1664525 + 1013904223;
     return *state >> 22;
 }
 
-/* Writes a problem of scattered cities, and answers how many bytes it has. */
+/* Writes a problem of scattered cities, and returns its length in bytes. */
 static size_t write_problem(char *text) {
     size_t size = (size_t)sprintf(text, "NAME : scattered\nTYPE : TSP\nDIMENSION : %d\nEDGE_WEIGHT_TYPE : EUC_2D\n"
                                         "NODE_COORD_SECTION\n", CITIES);

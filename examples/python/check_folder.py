@@ -1,8 +1,9 @@
 #!/usr/bin/env python3
-"""Checks every tour of a folder, that is each file whose name ends in .tour, against one problem, and prints a line for each: the shortest
-first, then what is no tour. The problem is read from disk once. The status is 1 if a file has no tour of the problem.
+"""Checks every tour file of a directory (each file whose name ends in .tour) against one problem, and prints a line for each: the shortest
+tour first, then the files without a tour. The problem is read from disk once. The status is 1 if a file does not contain a tour of the
+problem.
 
-usage: check_folder.py PROBLEM FOLDER        (needs the package `tourkit`: see docs/PYTHON.md)"""
+usage: check_folder.py PROBLEM DIR        (needs the package `tourkit`: see docs/PYTHON.md)"""
 
 import sys
 from pathlib import Path
@@ -11,7 +12,7 @@ import tourkit
 
 
 def said_of(problem, file):
-    """What is said of a tour file, and its length, which is greater than any other if it has no tour."""
+    """Returns the verdict on a tour file as a text, and the length of its tour. Without a tour, the length is infinite."""
     try:
         verdict = tourkit.check(problem, file)
     except tourkit.Refused as fault:

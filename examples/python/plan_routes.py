@@ -1,6 +1,6 @@
 #!/usr/bin/env python3
 """Plans routes for the places in a CSV file, prints them as CSV, and draws them. The columns of the file are `name`, `x`, `y` and `demand`.
-The first place is the depot. x and y are in a plane, in a small unit such as metres, since distances are rounded to whole numbers.
+The first place is the depot. x and y are plane coordinates in a small unit such as metres, since distances are rounded to integers.
 
 usage: plan_routes.py PLACES CAPACITY PICTURE >ROUTES        (needs the package `tourkit`: see docs/PYTHON.md)"""
 
@@ -14,13 +14,13 @@ CANDIDATES = 20
 
 
 def read_places(file):
-    """The places of a CSV file. The demand of the depot may be empty."""
+    """Returns the places of a CSV file. The demand of the depot may be empty."""
     with open(file, encoding="utf-8-sig", newline="") as lines:
         return list(csv.DictReader(lines, skipinitialspace=True))
 
 
 def plan(places, capacity, name):
-    """The problem of these places, and routes for it."""
+    """Returns the problem for these places, and its routes."""
     points = [(place["x"], place["y"]) for place in places]
     demands = [int(place["demand"] or 0) for place in places]
     problem = tourkit.Problem.from_points(points, name=name, demands=demands, capacity=capacity)
@@ -28,7 +28,7 @@ def plan(places, capacity, name):
 
 
 def print_routes(places, routes):
-    """A line for each stop. City c is the place at index c - 1."""
+    """Prints a line for each stop. City c is the place at index c - 1."""
     out = csv.writer(sys.stdout, lineterminator="\n")
     out.writerow(["route", "stop", "name"])
     for route, cities in enumerate(routes.cities, 1):
