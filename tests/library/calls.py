@@ -22,7 +22,7 @@ TOUR = [1, 2, 3]
 
 
 def refusal(call, *arguments, **options):
-    """The exception of a call that is refused."""
+    """Returns the exception of a call that is rejected."""
     try:
         given = call(*arguments, **options)
     except tourkit.Refused as fault:
@@ -31,7 +31,7 @@ def refusal(call, *arguments, **options):
 
 
 def error(kind, call, *arguments, **options):
-    """The message of a call that raises an exception of this kind, and no refusal."""
+    """Returns the message of a call that raises an exception of this kind, which must not be a Refused."""
     try:
         given = call(*arguments, **options)
     except kind as raised:
@@ -41,7 +41,7 @@ def error(kind, call, *arguments, **options):
 
 
 def try_header():
-    """The calls and the answer of the package are those of the header for C."""
+    """The functions and the answer of the package are those of the C header."""
     header = (pathlib.Path(__file__).resolve().parents[2] / "include/tourkit.h").read_text()
     known = {"uint32_t": ctypes.c_uint32, "uint64_t": ctypes.c_uint64, "size_t": ctypes.c_size_t, "bool": ctypes.c_bool}
     declared = {}
@@ -85,7 +85,7 @@ def try_tours_of_all_kinds():
 
 
 def try_cities_that_are_none():
-    """A number that no city can have is out of range, whatever its size."""
+    """A number that cannot be a city is out of range, whatever its size."""
     for city in (0, 4, -1, 2**32, -(2**70)):
         verdict = tourkit.check("tri.tsp", [1, city, 3])
         assert (verdict.fault, verdict.place, verdict.city) == ("OutOfRange", 2, city), verdict
@@ -116,7 +116,7 @@ def try_routes_of_all_kinds():
 
 
 def try_depot_is_no_customer():
-    """With another depot than city 1, the customers below it have their own numbers as cities."""
+    """If the depot is not city 1, the customers below it have their own numbers as cities."""
     options = {"demands": [1, 1, 0, 1], "capacity": 3, "depot": 3}
     problem = tourkit.Problem.from_points([(0, 0), (0, 5), (0, 9), (0, 20)], **options)
     routes = tourkit.solve(problem)
@@ -126,7 +126,7 @@ def try_depot_is_no_customer():
 
 
 def try_refusals():
-    """A refusal has the number, the name, the line and the file that the program shows, and comes back whole from another process."""
+    """A Refused has the number, the name, the line and the file that the program prints, and can be pickled."""
     known = {
         ("tri.tour:3: 4 Unsupported", 4, "Unsupported", 3, "tri.tour"): (tourkit.check, "tri.tour", "tri.tour"),
         ("<problem>:1: 1 UnknownKeyword", 1, "UnknownKeyword", 1, None): (tourkit.near, b"FOO : 1\n"),
@@ -150,7 +150,7 @@ def try_refusals():
 
 
 def try_arguments_out_of_their_limits():
-    """Arguments are refused by their names."""
+    """An error about an argument names it."""
     for name, number in {"seed": -1, "trials": 0, "runs": 10_001, "candidates": 101, "or_segment": 4, "pieces": 0}.items():
         assert error(ValueError, tourkit.solve, "tri.tsp", **{name: number}).startswith(f"{name} is from "), name
     error(ValueError, tourkit.solve, "tri.tsp", construction="GREEDY\nRUNS = 1")
@@ -169,14 +169,14 @@ def try_arguments_out_of_their_limits():
 
 
 def try_coordinates_are_exact():
-    """Coordinates count as they are written, up to the ninth decimal place."""
+    """Coordinates are exact up to the ninth decimal place."""
     problem = tourkit.Problem.from_points([(0.1, -0.1), (1e-9, "12.3456789019"), (-(10**9), 10**9)], "MAN_2D", name="a\nb")
     assert problem.text.splitlines()[0] == b"NAME : a b"
     assert problem.text.splitlines()[5:8] == [b"1 0.1 -0.1", b"2 0.000000001 12.345678901", b"3 -1000000000 1000000000"], problem.text
 
 
 def try_rooms_of_all_sizes():
-    """A text comes whole, whatever room it is given first."""
+    """A text is complete, whatever the size of its first buffer."""
     texts = [text_of("square.tsp", "problem"), text_of("twice.tour", "tour")]
     words = [word for text in texts for word in text.words]
     line = b"repeated city at place 3: 2\n"
@@ -187,7 +187,7 @@ def try_rooms_of_all_sizes():
 
 
 def try_search_in_pieces():
-    """Each piece begins with the best tour of the one before, and takes the next seeds. `progress` sees all, and can end the search."""
+    """A piece starts from the best tour of the last piece, and uses the next seeds. `progress` gets every tour and can end the search."""
     seen = []
     found = tourkit.solve("board.tsp", seed=2**32 - 2, runs=2, trials=20, pieces=3, progress=seen.append)
     tour = None
@@ -202,9 +202,9 @@ def try_search_in_pieces():
 
 
 def try_interrupt():
-    """An interrupt comes between two pieces, and `progress` has the best tour until then."""
+    """An interrupt comes between two pieces, and `progress` gets the best tour until then."""
     seen = []
-    before = signal.signal(signal.SIGINT, signal.default_int_handler)  # which a job in the background may not have
+    before = signal.signal(signal.SIGINT, signal.default_int_handler)  # a job in the background might not have it
     timer = threading.Timer(0.5, os.kill, (os.getpid(), signal.SIGINT))
     timer.start()
     try:
@@ -220,7 +220,7 @@ def try_interrupt():
 
 
 def try_calls_in_threads():
-    """Calls beside each other give what they give alone."""
+    """Parallel calls give the results of separate calls."""
     wanted = tourkit.near("board.tsp", 7).tolist(), tourkit.solve("board.tsp", runs=1, trials=30).text
     found = []
     problem = tourkit.Problem("board.tsp")
@@ -237,7 +237,7 @@ def try_calls_in_threads():
 
 
 def try_too_little_memory():
-    """Where memory runs out, an exception says so, and a later call has its answer."""
+    """If memory runs out, an exception reports it, and a later call succeeds."""
     code = """
 import resource, tourkit
 few = tourkit.Problem.from_points([(0, 0), (1, 1), (2, 5)])
@@ -257,7 +257,7 @@ except MemoryError:
 
 
 def try_arrays_of_numpy():
-    """numpy takes what comes back without a copy, and its arrays are taken."""
+    """numpy uses the results without a copy, and its arrays are accepted."""
     import numpy
 
     for view, kind in ((tourkit.distances("board.tsp"), numpy.int64), (tourkit.near("board.tsp"), numpy.uint32)):
@@ -281,7 +281,7 @@ def try_arrays_of_numpy():
 
 
 def tests():
-    """The checks of this file, by what they say."""
+    """Returns the checks of this file, named by their docstrings."""
     checks = [try_header, try_problems_of_all_kinds, try_tours_of_all_kinds, try_cities_that_are_none,
               try_routes_of_all_kinds, try_depot_is_no_customer, try_refusals, try_arguments_out_of_their_limits,
               try_coordinates_are_exact, try_rooms_of_all_sizes, try_search_in_pieces, try_interrupt,

@@ -1,4 +1,4 @@
-"""The cases of tests/cases as calls of the package `tourkit`, and what they have to give."""
+"""The cases of tests/cases as calls of the package `tourkit`, and their expected results."""
 
 import dataclasses
 import json
@@ -14,10 +14,10 @@ import tourkit
 from tourkit._solve import search
 from tourkit._text import Text
 
-# What standard error says where the words of the program, the files that it opens and writes, or its two ways to search are at fault.
+# Messages about the command line, the files that the program opens and writes, or its two ways to search.
 OF_THE_PROGRAM = re.compile(r"^error: |cannot be opened|is the same file as|is the parameter file|options of a search")
 
-# The options of a search with a value, and the keys of parameter files, by the arguments of `solve`.
+# The search options that take a value, and the keys of parameter files, by the arguments of `solve`.
 OPTIONS = {"trials": int, "runs": int, "seed": int, "candidates": int, "or_segment": int, "construction": str, "initial_tour": str}
 KEYS = {"trials": b"MAX_TRIALS", "runs": b"RUNS", "seed": b"SEED", "candidates": b"MAX_CANDIDATES", "or_segment": b"OR_SEGMENT",
         "construction": b"CONSTRUCTION", "initial_tour": b"INITIAL_TOUR_FILE", "final_sweep": b"FINAL_SWEEP"}
@@ -25,7 +25,7 @@ KEYS = {"trials": b"MAX_TRIALS", "runs": b"RUNS", "seed": b"SEED", "candidates":
 RUN = "run {run}: start {start}, best {best}, trials {trials}, moves {moves}, tests {tests}, swaps {swaps}\n"
 ROUTES = "savings {savings}, routes {routes}\nimproved {improved}, moves {moves}, tests {tests}, swaps {swaps}\n"
 
-# Which of its numbers each row of a matrix keeps, by the format; columns are rows of the same matrix.
+# The numbers that each row of a matrix keeps, by the format. The matrix is symmetric, so columns are its rows.
 ROWS = {
     "FULL_MATRIX": lambda row, i: row,
     "UPPER_ROW": lambda row, i: row[i + 1 :],
@@ -40,7 +40,7 @@ ROWS = {
 
 
 class Case:
-    """A case: its words, and what it gives to the program and wants from it."""
+    """A case: its arguments, and the inputs and expected outputs of the program."""
 
     def __init__(self, folder):
         self.name = folder.name
@@ -52,35 +52,35 @@ class Case:
         self.status = int(self.content("status") or 0)
 
     def content(self, name):
-        """The bytes of a file of the case; none if it is not there."""
+        """Returns the bytes of a file of the case; no bytes if it is missing."""
         file = self.folder / name
         return file.read_bytes() if file.is_file() else b""
 
     def has_call(self):
-        """Whether there is a call of the package for its words."""
+        """Returns whether the package has a function for the arguments."""
         return self.command in CALLS and not {"--help", "--html"} & set(self.words) and not OF_THE_PROGRAM.search(self.stderr)
 
     def files(self):
-        """Its files, and what stands for standard input, as the package takes them."""
+        """Returns its files, and the contents of standard input for `-`, as the package accepts them."""
         return [self.given(word) for word in self.words[1:] if word != "--json"]
 
     def given(self, word):
-        """A file, or what stands for standard input."""
+        """Returns a file, or the contents of standard input for `-`."""
         return self.content("stdin") if word == "-" else word
 
     def written(self, name):
-        """What the program writes to a file."""
+        """Returns the bytes that the program writes to a file."""
         return self.content(f"out/{name}") or self.content(f"in/{name}")
 
 
 def read_cases():
-    """All cases for which there is a call."""
+    """Returns all cases for which the package has a function."""
     cases = (Case(words.parent) for words in sorted(TESTS.glob("cases/*/words")))
     return [case for case in cases if case.has_call()]
 
 
 def try_case(case):
-    """Makes the call of a case, in the directory with its files. It has to give the bytes of the case, or to refuse with its line."""
+    """Makes the call of a case, in the directory with its files. It must return the bytes of the case, or reject with its line."""
     told = ""
     try:
         out = CALLS[case.command](case)
@@ -103,7 +103,7 @@ def check(case):
 
 
 def try_lists(problem, tour, verdict):
-    """Checks the tour as a list of cities too, and the problem by what a second reader finds in it."""
+    """Checks the tour as a list of cities too, and the problem as the reference reader reads it."""
     cities = texts.read_tour(bytes_of(tour))
     assert tourkit.check(problem, cities) == verdict, "another verdict on the list"
     assert tourkit.check(problem_of(bytes_of(problem)), cities) == verdict, "another verdict on the problem in memory"
@@ -114,7 +114,7 @@ def bytes_of(given):
 
 
 def problem_of(text):
-    """A problem of the coordinates or of the weights that a second reader finds in a text."""
+    """Returns the problem of the coordinates or the weights that the reference reader finds in a text."""
     read = texts.read_problem(text)
     cities = range(1, read.n + 1)
     if read.kind == b"EXPLICIT":
@@ -124,7 +124,7 @@ def problem_of(text):
 
 
 def decimal(units):
-    """A coordinate as a decimal number."""
+    """Returns a coordinate as a decimal number."""
     return f"{'-' if units < 0 else ''}{abs(units) // texts.UNIT}.{abs(units) % texts.UNIT:09}"
 
 
@@ -141,7 +141,7 @@ def check_solution(case):
 
 
 def said(case, verdict):
-    """The line of a verdict, or its object."""
+    """Returns a verdict as a line, or as a JSON object."""
     assert bool(verdict) == (case.status == 0), verdict
     known = {name: value for name, value in vars(verdict).items() if value is not None}
     return json_of(known) if "--json" in case.words else f"{verdict}\n".encode()
@@ -160,7 +160,7 @@ def near(case):
 
 
 def matrix(case):
-    """The matrix, which the package gives in full, in the format of the case."""
+    """Returns the matrix in the format of the case; the package returns a full matrix."""
     problem, form = case.files()
     head, _, numbers = tourkit.matrix(problem).partition(b"FULL_MATRIX\nEDGE_WEIGHT_SECTION\n")
     rows = tourkit.distances(problem).tolist()
@@ -178,7 +178,7 @@ def plot(case):
 
 
 def solve(case):
-    """A search by the options of a case, or by its parameter file."""
+    """Searches by the options of a case, or by its parameter file."""
     options = [word for word in case.words if word.startswith("-") and word not in ("-", "--json", "--progress")]
     return solve_options(case) if options else solve_parameters(case)
 
@@ -201,7 +201,7 @@ def solve_options(case):
 
 
 def solve_parameters(case):
-    """The call for C takes the text of a parameter file. What it accepts can be asked for by arguments too."""
+    """Searches by the text of a parameter file, as the C function does. If it is accepted, arguments must give the same search."""
     file = next(word for word in case.words[1:] if not word.startswith("--"))
     parameters = Text(bytes_of(case.given(file)), "parameters", file)
     try:
@@ -225,7 +225,7 @@ def solve_parameters(case):
 
 
 def search_named(parameters, problem, start, values):
-    """The search of a parameter file. A refused key has the name of the file."""
+    """Searches by a parameter file. If a key is rejected, the error contains the name of the key in the file."""
     try:
         return search(parameters, problem, start, values.get(b"RUNS", 10))
     except tourkit.Refused as fault:
@@ -233,21 +233,21 @@ def search_named(parameters, problem, start, values):
 
 
 def plain(value):
-    """The value of a key as an argument."""
+    """Converts the value of a key into an argument."""
     if value in (b"YES", b"NO"):
         return value == b"YES"
     return value.decode() if isinstance(value, bytes) else value
 
 
 def told_of(case, found, ignored=()):
-    """The lines of a search, or its object."""
+    """Returns the result of a search as lines, or as a JSON object."""
     if "--json" in case.words:
         return json_of({"ignored": list(ignored), **object_of(found)})
     return b"".join(f"ignored {key}\n".encode() for key in ignored) + lines_of_search(found)
 
 
 def object_of(found):
-    """What a search found, by the names that --json has."""
+    """Returns the result of a search, by the names of --json."""
     if isinstance(found, tourkit.Tour):
         return {"runs": [dataclasses.asdict(run) for run in found.runs], "best": found.length}
     work = {name: getattr(found, name) for name in ("moves", "tests", "swaps")}
@@ -255,7 +255,7 @@ def object_of(found):
 
 
 def lines_of_search(found):
-    """What the program prints of a search."""
+    """Returns the lines that the program prints for a search."""
     members = object_of(found)
     lines = [RUN.format(**run) for run in members["runs"]] if "runs" in members else [ROUTES.format(**members)]
     return "".join([*lines, "best {best}\n".format(**members)]).encode()

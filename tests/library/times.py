@@ -1,4 +1,4 @@
-"""How long calls of the package `tourkit` take beside the program: in processor time, so that other work on the machine counts little."""
+"""Times of calls of the package `tourkit`, compared with the program: processor times, so that other work on the machine matters little."""
 
 import random
 import resource
@@ -12,14 +12,14 @@ MOST = 2  # Other work on the machine can change a ratio by a fifth.
 
 
 def time_of(call):
-    """The processor time of a call, in seconds."""
+    """Returns the processor time of a call, in seconds."""
     began = time.process_time()
     call()
     return time.process_time() - began
 
 
 def time_of_program(*words):
-    """The processor time of a run of the program."""
+    """Returns the processor time of a run of the program."""
 
     def used():
         spent = resource.getrusage(resource.RUSAGE_CHILDREN)
@@ -31,7 +31,7 @@ def time_of_program(*words):
 
 
 def compare(what, call, *words):
-    """Tells how much of the program's best time the best time of a call is. Fails if it is more than twice as much."""
+    """Prints the ratio of the best time of a call to that of the program. Fails if it is more than 2."""
     ours, theirs = [], []
     for _ in range(ROUNDS):
         ours.append(time_of(call))
@@ -87,7 +87,7 @@ def try_many(folder):
 
 
 def tests(program, folder):
-    """The checks of this file, by what they say."""
+    """Returns the checks of this file, named by their docstrings."""
     return [
         (try_large.__doc__, lambda: try_large(program, folder)),
         (try_distances.__doc__, lambda: try_distances(program, folder)),

@@ -1,4 +1,4 @@
-"""A program with type hints over the package, for mypy."""
+"""A program with type hints that uses the package, for mypy."""
 
 from pathlib import Path
 from typing import List, Union
@@ -7,13 +7,13 @@ import tourkit
 
 
 def best_of(folder: Path, problem: tourkit.Problem) -> int:
-    """The length of the shortest tour of a folder."""
+    """Returns the length of the shortest tour of a directory."""
     verdicts: List[tourkit.TourVerdict] = [tourkit.check(problem, file) for file in folder.glob("*.tour")]
     return min(verdict.length for verdict in verdicts if verdict.length is not None)
 
 
 def shown(found: Union[tourkit.Tour, tourkit.Routes]) -> str:
-    """What a search has come to."""
+    """Returns the result of a search as a text."""
     return f"{found.length}" if isinstance(found, tourkit.Tour) else f"{len(found.cities)} routes"
 
 

@@ -1,5 +1,5 @@
-# Prints the words that bash offers at the end of a line for tourkit, one per line.
-# usage: bash --norc tests/package/offers.bash FILE LINE        (FILE: the completion, or - for that of bash-completion)
+# Prints the completions that bash offers at the end of a tourkit command line, one per line.
+# usage: bash --norc tests/package/offers.bash FILE LINE        (FILE: the completion script, or - for the one that bash-completion finds)
 # shellcheck source=/dev/null
 if [ "$1" = - ]; then
     . /usr/share/bash-completion/bash_completion

@@ -1,6 +1,6 @@
-# Prints the words that zsh offers at the end of a line for tourkit, one per line. It presses a key in a shell of its own that puts all of
-# them into the line.
-# usage: zsh -f tests/package/offers.zsh FOLDER LINE        (FOLDER: where the completion is, or - for that which zsh finds)
+# Prints the completions that zsh offers at the end of a tourkit command line, one per line. It starts another shell, and presses a key
+# there that inserts all of them into the line.
+# usage: zsh -f tests/package/offers.zsh DIR LINE        (DIR: the directory of the completion script, or - for the one that zsh finds)
 zmodload zsh/zpty
 line=$(mktemp)
 zpty shell zsh -f -i

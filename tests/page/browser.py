@@ -1,6 +1,6 @@
 """Headless Chromium, driven through a pipe by the DevTools protocol.
 
-Chromium reads commands from file descriptor 3 and writes answers and events to 4: each is one JSON object, ended by a NUL byte."""
+Chromium reads commands from file descriptor 3 and writes responses and events to 4. Each is one JSON object, ended by a NUL byte."""
 
 import base64
 import fcntl
@@ -12,23 +12,23 @@ import subprocess
 import time
 
 NAMES = ("chromium", "chromium-browser", "chromium-headless-shell", "google-chrome")
-# There is no sandbox for root, and little shared memory in a container; the pages are the program's own.
+# Root has no sandbox, and a container has little shared memory. The pages are the program's own.
 OPTIONS = ("--headless", "--remote-debugging-pipe", "--no-sandbox", "--disable-dev-shm-usage", "--disable-gpu", "--no-first-run",
            "--disable-extensions", "--disable-background-networking", "--disable-component-update", "--disable-sync", "--hide-scrollbars",
            "about:blank")
 KEYS = {"Enter": 13, "Tab": 9, "Escape": 27, "Home": 36, "End": 35, "ArrowLeft": 37, "ArrowUp": 38, "ArrowRight": 39, "ArrowDown": 40,
         "Backspace": 8}
 SHIFT = 8
-PATIENCE = 60               # seconds for an answer
+PATIENCE = 60               # seconds for a response
 
 
 def installed():
-    """The path of a Chromium, or None."""
+    """Returns the path of a Chromium, or None."""
     return next(filter(None, map(shutil.which, NAMES)), None)
 
 
 def open_pipe():
-    """The two ends of a pipe, neither of which is 3 or 4."""
+    """Returns the two ends of a pipe, neither of which is descriptor 3 or 4."""
     ends = os.pipe()
     moved = [fcntl.fcntl(end, fcntl.F_DUPFD_CLOEXEC, 10) for end in ends]
     for end in ends:
@@ -40,7 +40,7 @@ class Browser:
     """One window with one page."""
 
     def __init__(self, path, folder):
-        """Starts a Chromium that keeps what it stores in a folder."""
+        """Starts a Chromium that stores its data in a directory."""
         commands, self.to = open_pipe()
         self.come, answers = open_pipe()
 
@@ -65,7 +65,7 @@ class Browser:
         self.do("Browser.close")
         self.process.wait(PATIENCE)
 
-    # ---- commands, answers and events
+    # ---- commands, responses and events
 
     def next_message(self):
         while b"\0" not in self.read:
@@ -79,7 +79,7 @@ class Browser:
         return json.loads(message)
 
     def do(self, method, **parameters):
-        """Sends a command and returns its answer. Events that come before it are kept."""
+        """Sends a command and returns its response. Keeps events that come before it."""
         self.sent += 1
         command = {"id": self.sent, "method": method, "params": parameters}
         if self.session:
@@ -97,7 +97,7 @@ class Browser:
                 self.events.append(message)
 
     def take(self, *methods):
-        """Takes the events of some kinds that have come."""
+        """Removes and returns the events of some kinds that have come."""
         taken = [event["params"] for event in self.events if event["method"] in methods]
         self.events = [event for event in self.events if event["method"] not in methods]
         return taken
@@ -105,7 +105,7 @@ class Browser:
     # ---- pages
 
     def open(self, file, script=True):
-        """Opens a file, with its script or without, and waits until it is loaded, and drawn by the script."""
+        """Opens a file with or without its script, and waits until it is loaded and the script has drawn it."""
         self.do("Emulation.setScriptExecutionDisabled", value=not script)
         self.events.clear()
         loader = self.do("Page.navigate", url=f"file://{file}")["loaderId"]
@@ -115,7 +115,7 @@ class Browser:
             self.settle()
 
     def evaluate(self, expression):
-        """The value of an expression in the page."""
+        """Returns the value of an expression in the page."""
         result = self.do("Runtime.evaluate", expression=expression, returnByValue=True, awaitPromise=True)
         if "exceptionDetails" in result:
             raise RuntimeError(f"{expression}: {result['exceptionDetails']['exception'].get('description')}")
@@ -126,7 +126,7 @@ class Browser:
         self.evaluate("new Promise(done => requestAnimationFrame(() => requestAnimationFrame(() => done())))")
 
     def wait_until(self, expression, patience=10):
-        """Waits until an expression is true; returns whether it came to be."""
+        """Waits until an expression is true. Returns False if it does not become true in time."""
         end = time.monotonic() + patience
         while not self.evaluate(expression):
             if time.monotonic() > end:
@@ -135,17 +135,17 @@ class Browser:
         return True
 
     def show_as(self, width=1000, height=800, media="", scheme="light", finger=False):
-        """Sets the size of the window, and what the page is shown on."""
+        """Sets the size of the window, the medium, the colour scheme and touch input."""
         self.do("Emulation.setDeviceMetricsOverride", width=width, height=height, deviceScaleFactor=1, mobile=False)
         self.do("Emulation.setEmulatedMedia", media=media, features=[{"name": "prefers-color-scheme", "value": scheme}])
         self.do("Emulation.setTouchEmulationEnabled", enabled=finger)
         self.settle()
 
     def picture(self, **parameters):
-        """A screenshot, as the bytes of a PNG."""
+        """Returns a screenshot, as the bytes of a PNG."""
         return base64.b64decode(self.do("Page.captureScreenshot", format="png", **parameters)["data"])
 
-    # ---- hands
+    # ---- input
 
     def mouse(self, kind, x, y, **more):
         self.do("Input.dispatchMouseEvent", type=kind, x=x, y=y, **more)
@@ -173,7 +173,7 @@ class Browser:
         self.settle()
 
     def press(self, *keys):
-        """Presses keys one after another: names as "Tab", or characters; "Shift+Tab" holds Shift."""
+        """Presses keys one after another: names as "Tab", or characters. "Shift+Tab" also presses Shift."""
         for key in keys:
             shift = SHIFT if key.startswith("Shift+") else 0
             name = key.removeprefix("Shift+")

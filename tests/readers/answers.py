@@ -1,6 +1,6 @@
 #!/usr/bin/env python3
-"""What tourkit answers, from the readers of texts.py: standard output, standard error and status. Run as a program it takes the
-words of tourkit, so that tests/run can try it on the cases. A solve that is not refused is beyond it."""
+"""Computes the standard output, standard error and status of tourkit, by the readers of texts.py. As a program, it takes the arguments of
+tourkit, so that tests/run can run it on the cases. It does not cover a solve that is not rejected."""
 
 import json
 from math import isqrt
@@ -14,11 +14,11 @@ from texts import Fault, ParamFault, UNIT, places, read_params, read_problem, re
 
 
 class Refused(Exception):
-    """The line of standard error, and the status."""
+    """A rejection: the line on standard error, and the status."""
 
 
 def half_up(x):
-    """x units as a whole number: nearest, halves up."""
+    """Returns x units as an integer, rounded to the nearest, with halves up."""
     return (2 * x + UNIT) // (2 * UNIT)
 
 
@@ -41,13 +41,13 @@ def distance(problem, a, b):
 
 
 def root_up(square, unit):
-    """The least d with d * d * unit >= square."""
+    """Returns the smallest d with d * d * unit >= square."""
     d = isqrt(square // unit)
     return d if d * d * unit >= square else d + 1
 
 
 def read_file(name, opened, read):
-    """Reads a file that was opened."""
+    """Reads an opened file."""
     if os.path.isdir(name):
         fault = ParamFault if read is read_params else Fault
         raise Refused(f"tourkit: {name}:{fault(1, 'Read')}", 3)
@@ -70,7 +70,7 @@ def open_file(name):
 
 
 def tour_fault(n, cities):
-    """The first fault of a list: its name, its place, and the line that check prints."""
+    """Returns the first fault of a list: its name, its place, and the line that check prints."""
     if len(cities) != n:
         return "1 WrongCount", f"wrong count: {n} wanted, {len(cities)} read"
     met = set()
@@ -132,7 +132,7 @@ def checksol(problem_file, solution_file):
 
 
 def solution_fault(problem, routes, cost):
-    """The first fault of claimed routes, or None."""
+    """Returns the first fault of the routes of a solution, or None."""
     node = [None] + [c for c in range(1, problem.n + 1) if c != problem.depot]
     met = set()
     for r, route in enumerate(routes, 1):
@@ -160,7 +160,7 @@ ENTITIES = {"&": "&amp;", "<": "&lt;", ">": "&gt;", '"': "&quot;"}
 
 
 def walk_of_colours():
-    """The colours from the eighth on, from red to red."""
+    """Yields the colours of a walk from red to red, from which the colours from the eighth on are taken."""
     red, green, blue = 190, 0, 0
     for channel, step, count in (("g", 1, 140), ("r", -1, 190), ("b", 1, 250), ("g", -1, 140), ("r", 1, 190), ("b", -1, 250)):
         for _ in range(count):
@@ -176,7 +176,7 @@ def colour(number):
 
 
 def shown(name):
-    """A name in XML."""
+    """Returns a name in XML."""
     def character(c):
         turns = "\u202a" <= c <= "\u202e" or "\u2066" <= c <= "\u2069"
         plain = c >= "\u00a0" and c not in "\ufffe\uffff" and not turns or " " <= c <= "~"
@@ -207,7 +207,7 @@ def plot(problem_file, claim_file=None):
 
 
 def picture(problem, caption, paths, numbered=False):
-    """The text of a picture, of closed lines through cities, by their numbers."""
+    """Returns the text of a picture, with closed lines through cities, which are given by their numbers."""
     cities = range(1, problem.n + 1)
     xs, ys = ([problem.points[c][axis] for c in cities] for axis in (0, 1))
     left, bottom, top = min(xs), min(ys), max(ys)
@@ -239,7 +239,7 @@ def picture(problem, caption, paths, numbered=False):
 
 
 def solve_by_options(problem_file, options):
-    """The same as solve for a problem with options, which name their values."""
+    """Like solve, but for a problem and options with their values."""
     initial_file = options.get("--initial-tour")
     opened = open_word(problem_file), initial_file and open_word(initial_file)
     problem = read_file(problem_file, opened[0], read_problem)
@@ -250,7 +250,7 @@ def solve_by_options(problem_file, options):
 
 
 def check_initial(problem, initial_file, opened):
-    """Refuses a tour to begin with that is none of the problem."""
+    """Rejects an initial tour that is not a tour of the problem."""
     if initial_file:
         fault = tour_fault(problem.n, read_file(initial_file, opened, read_tour))
         if fault:
@@ -258,7 +258,7 @@ def check_initial(problem, initial_file, opened):
 
 
 def solve(file, *options):
-    """Refuses what solve refuses. Of a run that is not refused: the lines that name ignored keys, and None for the status."""
+    """Rejects what solve rejects. Otherwise returns the lines that name ignored keys, and None for the status."""
     valued = [word for word in options if word not in ("--progress", "--final-sweep")]
     if valued or "--final-sweep" in options:
         return solve_by_options(file, dict(zip(valued[::2], valued[1::2])))
@@ -273,7 +273,7 @@ def solve(file, *options):
     return "".join(f"ignored {key.decode()}\n" for key in ignored), None
 
 
-# The lines of check and checksol, the faults that they tell, and the names of their numbers.
+# The lines of check and checksol, the faults that they report, and the names of their numbers.
 LINES = [
     (r"tour of (\d+) cities, length (\d+)", None, ["cities", "length"]),
     (r"wrong count: (\d+) wanted, (\d+) read", "WrongCount", ["wanted", "read"]),
@@ -289,7 +289,7 @@ LINES = [
 
 
 def object_of(line):
-    """The object that check and checksol print with --json in place of a line."""
+    """Returns the object that check and checksol print with --json instead of a line."""
     for form, fault, names in LINES:
         found = re.fullmatch(form + "\n", line)
         if found:
@@ -299,7 +299,7 @@ def object_of(line):
 
 
 def answer(words):
-    """Standard output, standard error and status."""
+    """Returns standard output, standard error and status."""
     if "--json" in words:
         out, told, status = answer([word for word in words if word != "--json"])
         return object_of(out.decode()).encode(), told, status

@@ -1,6 +1,6 @@
-"""Makes cases for the comparison of the readers: the words of a command and the files it reads. Each case is a valid text of random
-shape into which up to three faults are put. The same random generator gives the same case. A file may also be None, where there is no
-such file, or DIRECTORY."""
+"""Makes cases for the comparison of the readers: the arguments of a command and the files that it reads. Each case is a valid text of
+random shape with up to three faults. The same random generator gives the same case. A file may also be None, if it is missing, or
+DIRECTORY."""
 
 import answers
 from texts import FORMATS, HEADERS, IGNORED_KEYS, NUMBER_KEYS, PLANES, SECTIONS, Fault, places, read_problem, read_solution
@@ -33,7 +33,7 @@ DIRECTORY = "directory"
 
 
 def cased(random, word):
-    """A word as it is, or in other letters."""
+    """Returns a word, or the word in another case."""
     if random.random() < 0.8:
         return word
     return bytes(random.choice([b, b ^ 32]) if chr(b).isalpha() else b for b in word)
@@ -45,7 +45,7 @@ def header(random, word, value):
 
 
 def rows(random, numbers, width):
-    """Numbers in lines of a width, or in free layout."""
+    """Returns numbers in lines with `width` numbers each, or in free layout."""
     if random.random() < 0.6:
         return [b" ".join(numbers[i:i + width]) for i in range(0, len(numbers), width)]
     text = b"".join(number + random.choice([b" ", b" ", b"  ", b"\n", b"\t", b" \r", b"\n\n"]) for number in numbers)
@@ -141,7 +141,7 @@ def solution(random, n, data):
 
 
 def counted(data, lines):
-    """The cost of routes where they are right but for it, else 0."""
+    """Returns the cost of routes if they are otherwise valid, or 0."""
     try:
         routes, _ = read_solution(b"\n".join([*lines, b"Cost 0"]))
         problem = read_problem(data)
@@ -169,7 +169,7 @@ def params(random, cvrp):
 
 
 def fault(random, lines):
-    """Puts one fault, or what may be one, into a text."""
+    """Makes one change in a text, which is often a fault."""
     at = random.randrange(len(lines)) if lines else 0
     kind = random.randrange(12)
     if not lines or kind == 0:
@@ -207,7 +207,7 @@ def text(random, lines, faulty):
 
 
 def case(random, commands):
-    """The words of a command, and its files."""
+    """Returns the arguments of a command, and its files."""
     command = random.choice(commands)
     cvrp = command == "checksol" and random.random() < 0.95 or random.random() < 0.4
     n = random.choice([2, 3, 4, 5, 8, 12])
@@ -229,7 +229,7 @@ def case(random, commands):
 
 
 def plane(n, kind=b"EUC_2D", cvrp=False):
-    """A problem of n nodes on a grid; for a CVRP, of demands 1 and capacity 7."""
+    """Returns a problem of n nodes on a grid; for a CVRP, with demands of 1 and a capacity of 7."""
     nodes = range(1, n + 1)
     lines = [b"TYPE : CVRP\nCAPACITY : 7" if cvrp else b"TYPE : TSP", b"DIMENSION : %d" % n, b"EDGE_WEIGHT_TYPE : " + kind,
              b"NODE_COORD_SECTION", *(b"%d %d %d" % (node, node % 71, node // 71) for node in nodes)]
@@ -239,7 +239,7 @@ def plane(n, kind=b"EUC_2D", cvrp=False):
 
 
 def large_cases(commands):
-    """Cases at the limits on sizes, which random cases do not reach."""
+    """Returns cases at the limits on sizes, which random cases do not reach."""
     tour_head = b"TYPE : TOUR\nTOUR_SECTION\n"
     cases = []
     for n in [100_000, 100_001]:

@@ -1,5 +1,5 @@
-"""Reads problem, tour, solution and parameter texts as docs/FORMATS.md describes them. Slow and plain: it holds the whole text, and
-knows nothing of how tourkit reads. A text's limit of 1 GiB is left out."""
+"""Reads problem, tour, solution and parameter texts as docs/FORMATS.md describes them. It is slow and simple: it keeps the whole text in
+memory, and is independent of the readers of tourkit. It has no limit of 1 GiB on a text."""
 
 from dataclasses import dataclass, field
 from fractions import Fraction
@@ -28,7 +28,7 @@ IGNORED_KEYS = [b"MOVE_TYPE", b"PATCHING_A", b"PATCHING_C", b"PRECISION", b"TRAC
 
 
 class Fault(Exception):
-    """A text is refused: the line, the name of the fault, and its values."""
+    """The fault of a rejected text: its line, its name and its values."""
 
     def __init__(self, line, name, *values):
         super().__init__(line, name, *values)
@@ -57,12 +57,12 @@ class Problem:
 
 
 def integer(word):
-    """The value of an integer, or None."""
+    """Returns the value of an integer, or None."""
     return int(word) if re.fullmatch(rb"[+-]?[0-9]{1,18}", word) else None
 
 
 def decimal(word):
-    """The value of a decimal number in units of 10^-9, or None."""
+    """Returns the value of a decimal number in units of 10^-9, or None."""
     parts = re.fullmatch(rb"([+-]?)([0-9]*)(?:(\.)([0-9]*))?(?:[eE]([+-]?[0-9]{1,3}))?", word)
     if not parts or not (parts[2] or parts[4]):
         return None
@@ -73,7 +73,7 @@ def decimal(word):
 
 
 class Text:
-    """A text and a place in it."""
+    """A text and a position in it."""
 
     def __init__(self, data):
         self.data, self.at = data, 0
@@ -93,16 +93,16 @@ class Text:
         return self.data[self.at:] if end < 0 else self.data[self.at:end]
 
     def word(self):
-        """The word that stands here."""
+        """Returns the word at the current position."""
         return re.compile(rb"[A-Za-z0-9_]*").match(self.data, self.at)[0]
 
     def peek(self):
-        """Goes to the next token: its bytes, empty at the end of the text."""
+        """Goes to the next token and returns its bytes, which are empty at the end of the text."""
         self.skip(BLANKS + b"\n")
         return re.compile(rb"[^ \t\r\n]*").match(self.data, self.at)[0]
 
     def token(self):
-        """The next token, and where it begins."""
+        """Reads the next token. Returns it and its position."""
         token = self.peek()
         begins = self.at
         if len(token) > 64:
@@ -114,7 +114,7 @@ class Text:
         return token == b"" or token.upper() in (b"EOF", b"EOF:")
 
     def number(self, read, low, high, token=None):
-        """The number at the next token, in its limits."""
+        """Reads the next token as a number within these limits. Returns it and its position."""
         token, begins = token or self.token()
         bare = token[:-1] if token.endswith(b":") else token
         if token == b"" or bare.upper() in KEYWORDS:
@@ -132,7 +132,7 @@ class Text:
             raise self.fault("TrailingData")
 
     def second_minus_one(self):
-        """After an ending -1: one more as the next token is skipped."""
+        """Skips a second -1 after the -1 that ends a section."""
         back = self.at
         token = self.peek()
         if len(token) <= 64 and integer(token) == -1:
@@ -146,7 +146,7 @@ ANY = (-10**18, 10**18)
 
 
 class Form:
-    """What problem and tour texts have in common: lines, headers, sections."""
+    """The common parts of problem and tour texts: lines, headers and sections."""
 
     def __init__(self, data):
         self.text, self.seen, self.value = Text(data), set(), {}
@@ -203,7 +203,7 @@ class Form:
         return word
 
     def begin_section(self, key, begins, needs):
-        """What every section needs, then its colon."""
+        """Checks the requirements of every section, and skips its colon."""
         if key in self.seen:
             raise self.text.fault("Repeated", at=begins)
         self.seen.add(key)
@@ -269,7 +269,7 @@ class ProblemForm(Form):
             self.value[key] = self.depot(n)
 
     def rows(self, n, read, low, high, count):
-        """For each node its number and its values."""
+        """Returns the values of each node, by its number."""
         rows = {}
         for _ in range(n):
             node, begins = self.text.number(integer, *ANY)
@@ -362,7 +362,7 @@ class TourForm(Form):
 
 
 def places(form, n):
-    """The entries of a format of explicit weights, in their order."""
+    """Returns the matrix entries of a format of explicit weights, in their order."""
     cities = range(1, n + 1)
     if form == "FULL_MATRIX":
         return [(i, j) for i in cities for j in cities]
@@ -380,7 +380,7 @@ def read_tour(data):
 
 
 def read_solution(data):
-    """The routes and the cost."""
+    """Returns the routes and the cost of a solution text."""
     routes, cost, customers = [], None, 0
     for number, line in enumerate(data.split(b"\n"), 1):
         line = line.strip(BLANKS)
@@ -416,7 +416,7 @@ def read_solution(data):
 
 
 def tokens(line, most=None, number=0):
-    """The tokens of a line; those past the limit of customers are for limited_token to meet, so they are cut to one."""
+    """Returns the tokens of a line. If there are more than `most`, raises the first fault of these and of the one after them."""
     found = [token for token in re.split(rb"[ \t\r]+", line) if token]
     if most is not None and len(found) > most:
         for token in found[:most]:
@@ -439,7 +439,7 @@ def limited_token(number, token, low, high):
 
 
 def read_params(data):
-    """The values by key, and the ignored keys in the order of the file."""
+    """Returns the values by key, and the ignored keys in the order of the file."""
     values, ignored, begins = {}, [], 0
     for number, line in enumerate(data.split(b"\n"), 1):
         start = line.lstrip(BLANKS)
@@ -460,7 +460,7 @@ def read_params(data):
 
 
 def take_key(number, key, rest, values, ignored):
-    """One line of a parameter text."""
+    """Reads one line of a parameter text."""
     rest = rest.lstrip(BLANKS)
     value = (rest[1:] if rest.startswith(b"=") else rest).strip(BLANKS)
     if key not in FILE_KEYS + IGNORED_KEYS and key not in NUMBER_KEYS and key not in WORD_KEYS:
