@@ -1,6 +1,6 @@
-/* Makes each call of the library: with each growth of memory refused in turn, with no room, too little, just enough and too much for what it
- * writes, and from eight threads at once. Linked with --wrap for malloc, realloc and free.
- * usage: calls FOLDER ROUNDS     FOLDER has the files of examples/ and short.par; each thread makes each call so many times */
+/* Makes each call of the library in three ways: with each allocation failing in turn; with output buffers that are empty, too small, just
+ * large enough and too large; and from eight threads at once. Linked with --wrap for malloc, realloc and free.
+ * usage: calls FOLDER ROUNDS     FOLDER contains the files of examples/ and short.par; each thread makes each call ROUNDS times */
 #include "tourkit.h"
 #include <pthread.h>
 #include <stdio.h>
@@ -14,7 +14,7 @@ void *__wrap_malloc(size_t size);
 void *__wrap_realloc(void *block, size_t size);
 void __wrap_free(void *block);
 
-/* Which growth from now on is refused, how many blocks are held, and how many growths there were, in a thread. */
+/* In each thread: the allocation from now on that fails, the number of allocated blocks, and the number of allocations so far. */
 static __thread long countdown = -1, held, growths;
 
 static int is_refused(void) {
@@ -46,7 +46,7 @@ typedef struct {
     size_t size;
 } text;
 
-/* Reads a file into memory of just its size, so that a read past its end is seen. */
+/* Reads a file into memory of exactly its size, so that a read past its end is detected. */
 static text read_text(const char *folder, const char *name) {
     static uint8_t room[1 << 22];
     char path[512];
@@ -79,7 +79,7 @@ typedef struct {
     tourkit_answer answer;
 } result;
 
-/* How many bytes an entry has of what a call writes to its first buffer: 1 in a text, and 0 where it writes nothing. */
+/* The size of an entry that a call writes to its first buffer: 1 byte in a text, and 0 if it writes nothing. */
 static size_t unit_of(int which) {
     if (which < TEXTS) return 1;
     if (which == 9) return sizeof(int64_t);
@@ -122,7 +122,7 @@ static void expect(int fine, const char *what, int which, size_t at) {
     }
 }
 
-/* Two buffers of just so many bytes, each of them UNTOUCHED. */
+/* Two buffers of exactly these sizes, with every byte UNTOUCHED. */
 static result with_room(size_t room, size_t file_room) {
     result r = {__real_malloc(room ? room : 1), __real_malloc(file_room ? file_room : 1), room, file_room, {0}};
     memset(r.out, UNTOUCHED, room);
@@ -137,7 +137,7 @@ static void release(result *r) {
 
 static result wanted[CALLS];
 
-/* Whether a buffer has so many bytes of what is wanted, and is untouched after them. */
+/* Whether a buffer begins with the `count` expected bytes, and is untouched after them. */
 static int holds(const uint8_t *buffer, size_t room, const uint8_t *bytes, size_t count) {
     for (size_t i = count; i < room; i++) {
         if (buffer[i] != UNTOUCHED) return 0;
@@ -149,7 +149,7 @@ static size_t less_of(size_t a, size_t b) {
     return a < b ? a : b;
 }
 
-/* Makes all calls so many times beside other threads. */
+/* Makes all calls the given number of times, in parallel to other threads. */
 static void *make_all(void *given) {
     long rounds = *(const long *)given;
     for (long i = 0; i < rounds; i++) {
@@ -165,7 +165,7 @@ static void *make_all(void *given) {
     return NULL;
 }
 
-/* Makes a call with each of its growths refused. It may then say so, or get along without. */
+/* Makes a call once for each of its allocations, which fails. The call may report that, or do without. */
 static void refuse_each(int which) {
     result r = with_room(wanted[which].room, wanted[which].file_room);
     held = growths = 0;
@@ -184,8 +184,8 @@ static void refuse_each(int which) {
     printf("call %d: %ld growths refused\n", which, all);
 }
 
-/* Makes a call with room for so many entries and so many bytes. A text gets the first of its bytes; an array is written where it has room
- * for just the entries that there are. */
+/* Makes a call with room for `room` entries and `file_room` bytes. A text buffer gets the first bytes of the text. An array is written only
+ * if its size is exactly the number of entries. */
 static void try_room(int which, size_t room, size_t file_room) {
     const tourkit_answer *a = &wanted[which].answer;
     size_t unit = unit_of(which);
@@ -199,7 +199,7 @@ static void try_room(int which, size_t room, size_t file_room) {
     release(&r);
 }
 
-/* Makes a call with no room, too little, one too little, just enough, and too much, in either buffer. */
+/* Makes a call with either buffer empty, too small, too small by one, just large enough, and too large. */
 static void try_rooms(int which) {
     size_t needed = wanted[which].answer.needed, needed_file = wanted[which].answer.needed_file;
     size_t rooms[] = {0, 1, needed / 2, needed - 1, needed, needed + 1, needed + 1000};

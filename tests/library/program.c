@@ -1,5 +1,5 @@
-/* The commands of tourkit that have a call, by the library: what is printed, the files that are written and the status have to be those
- * of the program, so that tests/run can be told to run this one on the cases of tests/cases.
+/* The commands of tourkit that the library offers, implemented by its functions. Output, written files and status must be those of tourkit,
+ * so that tests/run can run this program on the cases of tests/cases.
  * usage: program check PROBLEM TOUR           program matrix PROBLEM FULL_MATRIX
  *        program checksol PROBLEM SOLUTION    program plot PROBLEM [TOUR | SOLUTION]
  *        program near PROBLEM [-k K]          program solve PARAMETERS */
@@ -12,13 +12,13 @@
 
 enum { UNUSABLE = 3, UNEXPECTED = 9, CANDIDATES = 5 };
 
-/* Bytes, and how many. */
+/* Bytes and their number. */
 typedef struct {
     uint8_t *bytes;
     size_t size;
 } text;
 
-/* Ends the program where the library does not do what its header says. */
+/* Ends the program if the library does not do what its header specifies. */
 static void expect(bool fine, const char *what) {
     if (!fine) {
         fprintf(stderr, "not as tourkit.h says: %s\n", what);
@@ -26,14 +26,14 @@ static void expect(bool fine, const char *what) {
     }
 }
 
-/* A place for so many bytes, and for no more, so that one written past its end can be seen. */
+/* Memory of exactly this size, so that a byte written past its end is detected. */
 static text room_for(size_t size) {
     text room = {malloc(size ? size : 1), size};
     expect(room.bytes != NULL, "there is memory");
     return room;
 }
 
-/* Reads a file that is open to its end, into just as many bytes as it has. */
+/* Reads an open file to its end, into memory of exactly its size. */
 static text read_all(FILE *file) {
     uint8_t part[4096];
     text read = room_for(0);
@@ -56,17 +56,17 @@ static FILE *open_file(const char *name) {
     return file;
 }
 
-/* Reads the file of a word of the call: standard input for a dash. */
+/* Reads the file that an argument names: standard input for a dash. */
 static text read_word(const char *word) {
     return read_all(strcmp(word, "-") ? open_file(word) : stdin);
 }
 
-/* Writes a text as a whole. */
+/* Writes a whole text. */
 static void print(FILE *file, text printed) {
     fwrite(printed.bytes, 1, printed.size, file);
 }
 
-/* Tells why a tour to begin with was refused. */
+/* Prints why an initial tour was rejected. */
 static void tell_clash(const char *file, const tourkit_answer *answer) {
     static const char *const names[] = {"1 WrongCount", "2 OutOfRange", "3 RepeatedCity"};
     expect(answer->kind <= TOURKIT_REPEATED_CITY, "a fault of a tour is 20 to 22");
@@ -75,7 +75,7 @@ static void tell_clash(const char *file, const tourkit_answer *answer) {
     fprintf(stderr, "\n");
 }
 
-/* Tells the fault of a text, whose message ends with the line, the number and the name of the fault. */
+/* Prints the fault of a text. The message ends with the line, the number and the name of the fault. */
 static void tell_fault(const char *file, const char *message, const tourkit_answer *answer) {
     char told[64];
     int size = snprintf(told, sizeof told, "%" PRIu64 ": %" PRIu32 " ", answer->line, answer->kind);
@@ -85,8 +85,8 @@ static void tell_fault(const char *file, const char *message, const tourkit_answ
     fprintf(stderr, "tourkit: %s:%s\n", file, fault);
 }
 
-/* Ends where a text was refused, or there was no memory. `files` has the names of the texts, in their order, and `problem` is which of
- * them is the problem's. */
+/* Returns the status if a text was rejected or memory has run out. `files` contains the names of the texts in order, and `problem` is the
+ * number of the problem text. */
 static int end_refused(const char *const *files, size_t problem, text message, const tourkit_answer *answer) {
     expect(answer->status == TOURKIT_REFUSED || answer->status == TOURKIT_NO_MEMORY, "the status is 2 or 3");
     expect(answer->needed == message.size, "a message is as long as it was");
@@ -108,14 +108,14 @@ static int end_refused(const char *const *files, size_t problem, text message, c
     return TOURKIT_REFUSED;
 }
 
-/* A command, with what a call of it is given. */
+/* A command and its input. */
 typedef struct {
     const char *name;
     text problem, claim;
     uint32_t candidates;
 } command;
 
-/* Makes the call of a command that prints one text. */
+/* Calls the function of a command that prints one text. */
 static void call(const command *given, text out, tourkit_answer *answer) {
     text p = given->problem, c = given->claim;
     if (!strcmp(given->name, "check")) {
@@ -129,7 +129,7 @@ static void call(const command *given, text out, tourkit_answer *answer) {
     }
 }
 
-/* Runs a command that prints one text: once to learn how many bytes there are, and once for the bytes. */
+/* Runs a command that prints one text: once to get the number of bytes, and once to get the bytes. */
 static int run(const command *given, const char *const *files) {
     tourkit_answer first, answer;
     call(given, room_for(0), &first);
@@ -161,7 +161,7 @@ static bool is_blank(char byte) {
     return byte == ' ' || byte == '\t' || byte == '\r';
 }
 
-/* The file that parameters name by a key; null for none. The library has accepted them. */
+/* The file that a key of the parameters names; null for none. The library has accepted the parameters. */
 static char *file_of(text parameters, const char *key) {
     char *all = calloc(parameters.size + 1, 1), *found = NULL;
     expect(all != NULL, "there is memory");
@@ -190,7 +190,7 @@ static void save(const char *name, text written) {
     fclose(file);
 }
 
-/* Runs `solve`. The texts that parameters ask for are read once they have been accepted. */
+/* Runs `solve`. The files that the parameters name are read after these have been accepted. */
 static int solve(const char *parameter_file) {
     text parameters = read_word(parameter_file), none = room_for(0), lines = room_for(1 << 16), file = room_for(1 << 20);
     tourkit_answer answer;

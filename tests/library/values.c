@@ -1,9 +1,9 @@
-/* What each call of the library gives, on the smallest problems: the values of its answer, and the first bytes of what it writes. */
+/* Checks the results of each function of the library on the smallest problems: the values of the answer, and the first output bytes. */
 #include "tourkit.h"
 #include <stdio.h>
 #include <string.h>
 
-/* A text, or an array, with its size, as the calls take them. */
+/* A text or an array with its size, as arguments of a call. */
 #define TEXT(text) (const uint8_t *)(text), sizeof(text) - 1
 #define ARRAY(array) (array), sizeof(array) / sizeof *(array)
 

@@ -1,13 +1,13 @@
-/* Loaded before the C library, it refuses one request of a program: a read, a write or a growth of memory. Without these settings in
- * the environment, it changes nothing:
- *     REFUSE_MOST=N          each read gives at most N bytes
- *     REFUSE_READ=K:FILE     read K of that file fails, counted from 1; so does every later one, and each is noted
- *     REFUSE_WRITE=K:FILE    the file takes K bytes, and then writes fail; FILE is a name, the number of a descriptor, or * for all but
+/* A library that is loaded before the C library and makes one request of a program fail: a read, a write or an allocation. These variables
+ * of the environment control it; without them, it changes nothing:
+ *     REFUSE_MOST=N          each read returns at most N bytes
+ *     REFUSE_READ=K:FILE     read K of this file, counted from 1, and every later one fail; each is noted
+ *     REFUSE_WRITE=K:FILE    the file takes K bytes, and then writes fail; FILE is a name, the number of a descriptor, or * for all except
  *                            standard input, output and error
- *     REFUSE_EMPTY=1         such a write takes no bytes in place of failing
- *     REFUSE_MEMORY=N        growth N is refused, counted from 1
+ *     REFUSE_EMPTY=1         such a write takes no bytes instead of failing
+ *     REFUSE_MEMORY=N        allocation N fails, counted from 1
  *     REFUSE_LINES=1         each line on standard output is noted
- *     REFUSE_NOTES=FILE      where a byte is added for each refusal, 'r', 'w' or 'm', and '.' for a line */
+ *     REFUSE_NOTES=FILE      the notes: a byte for each failure, 'r', 'w' or 'm', and '.' for each line */
 #define _GNU_SOURCE
 #include <dlfcn.h>
 #include <errno.h>
@@ -22,7 +22,7 @@ static long most, read_at, write_room, memory_at, reads, growths;
 static const char *read_file, *write_file, *notes;
 static int is_set_up, is_empty, has_lines;
 
-/* The number before the colon of a setting, and what is after it. */
+/* The number before the colon of a setting, and the text after it. */
 static long split(const char *setting, const char **rest) {
     char *end;
     long number = strtol(setting, &end, 10);
@@ -62,7 +62,7 @@ static void note_lines(const char *bytes, size_t count) {
             note('.');
 }
 
-/* Whether a descriptor is open on that file. */
+/* Whether a descriptor refers to this file. */
 static int is_on(int descriptor, const char *name) {
     struct stat here, there;
     if (name[0] == '*' && !name[1])
@@ -100,7 +100,7 @@ ssize_t write(int descriptor, const void *bytes, size_t count) {
     return taken;
 }
 
-/* Whether this growth is the one to refuse. */
+/* Whether this allocation must fail. */
 static int is_refused(void) {
     if (!is_set_up)
         set_up();
