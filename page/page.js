@@ -1,29 +1,29 @@
 // The page of `tourkit plot --html`: zoom and pan, the city at the pointer, and the table of routes.
 //
-// The program writes what this shows. #stage holds the picture, #routes the table, and two blocks hold numbers:
+// The program writes the data. #stage contains the picture, #routes the table, and two blocks contain numbers:
 //     #cities    line c is city c: <across>,<down> <x> <y> [<demand> [depot]], with x and y in units of 10^-9
 //     #paths     line k has the cities of the k-th closed line of the picture, which is the k-th row of the table
-// A place is given in one of three ways: <across> and <down> as the picture's lines have them; in units of the picture's viewBox;
-// or in pixels from the top left corner of the stage.
+// There are three kinds of coordinates: <across> and <down>, as in the lines of the picture; units of the picture's viewBox; and
+// pixels from the top left corner of the stage.
 'use strict';
 (() => {
-const REACH = 14;               // pixels from the pointer within which a city is found
-const ROOM = 45;                // pixels to each side that the number of a route wants for itself
-const TITLE = 60;               // units above the cities, where the picture has the title that the page has in its heading
+const REACH = 14;               // pixels: the distance from the pointer within which a city is found
+const ROOM = 45;                // pixels: the space that the number of a route needs on each side
+const TITLE = 60;               // units above the cities: the title of the picture, which the page shows as its heading
 const MARGIN = 20;              // units around the cities
-const ABOVE = 20;               // units above them that the numbers of routes want
-const CLOSEST = 0.004;          // the fewest units to a pixel
-const STEP = 80;                // pixels that an arrow moves
-const HEAVY = 5000;             // from so many cities on, the picture is drawn anew only when a movement rests
-const REST = 150;               // milliseconds
-const FEW = 2000;               // a picture without points gets those in view, if they are so few
-const ON_PAPER = 1.4;           // units to a pixel
-const SPOTS = 10000;            // the greatest <across> or <down>
+const ABOVE = 20;               // units above them that the numbers of routes need
+const CLOSEST = 0.004;          // the minimum number of units per pixel
+const STEP = 80;                // pixels by which an arrow key pans
+const HEAVY = 5000;             // from this number of cities on, the picture is redrawn only when a movement pauses
+const REST = 150;               // milliseconds of such a pause
+const FEW = 2000;               // a picture without points shows those in view, if there are at most this many
+const ON_PAPER = 1.4;           // units per pixel when the page is printed
+const SPOTS = 10000;            // the maximum of <across> and <down>
 
 const byId = id => document.getElementById(id);
 const clamp = (low, value, high) => Math.max(low, Math.min(high, value));
 
-// ---- what the program wrote
+// ---- the data of the program
 
 const stage = byId('stage'), svg = stage.querySelector('svg'), group = svg.querySelector('g');
 const polygons = [...group.querySelectorAll('polygon')], routeNumbers = [...group.querySelectorAll('text')];
@@ -49,12 +49,12 @@ paths.forEach((path, k) => path.forEach((city, stop) => {
     if (city !== depot) { pathOf[city] = k; stopOf[city] = stop; }
 }));
 
-// The cities as the keys N and P go: along the lines, or else by number. The depot is there once.
+// The cities in the order of the keys N and P: along the lines, or by number if there are none. The depot occurs once.
 const walk = paths.length === 0 ? cities.map((_, index) => index + 1) : paths.flat().filter((city, i) => city !== depot || i === 0);
 const turnOf = new Int32Array(count + 1);
 walk.forEach((city, turn) => { turnOf[city] = turn; });
 
-// ---- what is added to the page
+// ---- elements that are added to the page
 
 function element(kind, attributes, space = 'http://www.w3.org/1999/xhtml') {
     const made = document.createElementNS(space, kind);
@@ -64,15 +64,15 @@ function element(kind, attributes, space = 'http://www.w3.org/1999/xhtml') {
 
 const drawing = (kind, attributes) => element(kind, attributes, 'http://www.w3.org/2000/svg');
 
-// A copy of the route that is lit up, above the other lines.
+// A copy of the highlighted route, above the other lines.
 const lit = drawing('polygon', { id: 'lit', points: '' });
 if (polygons.length > 0) polygons.at(-1).after(lit);
 
-// The points of a picture that has none.
+// The points in view, for a picture without points.
 const nearDots = group.querySelector('path[stroke="black"]') ? null : drawing('path', { stroke: 'black', d: '' });
 if (nearDots !== null) lit.after(nearDots);
 
-// The mark and the words stand above the picture, not in it: then the picture is not drawn anew when they move.
+// The mark and the tip are above the picture, not in it, so that the picture is not redrawn when they move.
 const mark = element('div', { id: 'mark', hidden: '' }), tip = element('div', { id: 'tip', hidden: '', 'aria-hidden': 'true' });
 
 function prepareStage() {
@@ -82,7 +82,7 @@ function prepareStage() {
     title.remove();                                             // a browser would show it at the pointer
     for (const text of svg.querySelectorAll(':scope > text')) text.remove();
 
-    // The numbers and the depot keep their size: they are placed by that size, and by a square end of a line.
+    // The numbers and the depot keep their size on the screen. For this, the depot becomes a line of length 0 with square ends.
     const square = group.querySelector('path[fill="black"]');
     if (square !== null) square.setAttribute('d', square.getAttribute('d').replace(/m.*/, 'h0'));
 
@@ -100,14 +100,14 @@ prepareStage();
 const asked = byId('number'), status = byId('where');
 asked.max = count;
 
-// ---- a grid, which finds the cities of a box
+// ---- a grid that finds the cities in a box
 
 const cells = clamp(1, Math.ceil(Math.sqrt(count / 2)), 256);    // in each direction
 const lane = place => clamp(0, Math.floor(place * cells / (SPOTS + 1)), cells - 1);
 const cellOf = city => lane(down[city]) * cells + lane(across[city]);
 const starts = new Int32Array(cells * cells + 1), byCell = new Int32Array(count);
 
-// The cities in the order of their cells; those of a cell begin at its place in starts.
+// Sorts the cities by their cells; those of a cell begin at its index in starts.
 function fillGrid() {
     for (let city = 1; city <= count; city++) starts[cellOf(city) + 1]++;
     for (let cell = 0; cell < cells * cells; cell++) starts[cell + 1] += starts[cell];
@@ -129,7 +129,7 @@ function citiesIn(left, top, right, bottom) {
     return found;
 }
 
-// The nearest city within a distance, and of those as near the one with the lowest number; 0 if there is none.
+// The nearest city within a distance, with ties broken by number; 0 if there is none.
 function nearest(x, y, reach) {
     let best = 0, least = reach * reach;
     for (const city of citiesIn(x - reach, y - reach, x + reach, y + reach)) {
@@ -139,7 +139,7 @@ function nearest(x, y, reach) {
     return best;
 }
 
-// ---- the view: its top left corner, and the units to a pixel
+// ---- the view: its top left corner, and the units per pixel
 
 const [originX, originY, unit] = group.getAttribute('transform').match(/[-\d.]+/g).map(Number);
 const [, , pictureWidth, pictureHeight] = svg.getAttribute('viewBox').split(' ').map(Number);
@@ -148,7 +148,7 @@ const whole = { x: 0, y: top, width: pictureWidth, height: pictureHeight - top }
 let view = { x: 0, y: 0, scale: 1 };
 let drawn = view;               // the view when the picture was last drawn
 let isWhole = true;             // whether the view follows the size of the stage
-let resting = 0;                // the timer
+let resting = 0;                // the timer of a pause
 let width = 1, height = 1;      // of the stage, in pixels
 
 const wholeScale = () => Math.max(whole.width / width, whole.height / height);
@@ -162,18 +162,18 @@ function draw() {
     clearTimeout(resting);
     drawn = view;
     svg.style.transform = '';
-    const edge = count < HEAVY ? 0 : 0.5;                       // what is drawn beyond each edge, in parts of the stage
+    const edge = count < HEAVY ? 0 : 0.5;                       // the part beyond each edge that is drawn, relative to the stage
     const wide = width * view.scale, high = height * view.scale;
     svg.setAttribute('viewBox', [view.x - edge * wide, view.y - edge * high, (1 + 2 * edge) * wide, (1 + 2 * edge) * high].join(' '));
     setWidths(view.scale);
     if (nearDots !== null) drawNearDots();
 }
 
-// Lines, points and numbers keep their size on the screen, but where there is little room, lines and points are thin.
+// Lines, points and numbers keep their size on the screen, but lines and points are thinner if there is little room.
 function setWidths(scale) {
     const side = SPOTS * unit / scale, apart = side / Math.sqrt(count), dot = clamp(1.2, 0.2 * apart, 5);
     svg.style.setProperty('--scale', scale);
-    svg.style.setProperty('--line', clamp(0.6, 0.08 * apart, count < HEAVY ? 1.5 : 1));       // to a pixel, browsers draw sooner
+    svg.style.setProperty('--line', clamp(0.6, 0.08 * apart, count < HEAVY ? 1.5 : 1));       // up to one pixel, browsers draw faster
     svg.style.setProperty('--dot', dot);
     svg.classList.toggle('fine', dot < 2);
     svg.classList.toggle('crowded', side / Math.sqrt(polygons.length) < ROOM);
@@ -185,7 +185,7 @@ function drawNearDots() {
     nearDots.setAttribute('d', found.length > FEW ? '' : found.map(city => `M${across[city]},${down[city]}h0`).join(''));
 }
 
-// A heavy picture is moved and stretched as it is drawn, until that rests.
+// Moves and scales a heavy picture as it was drawn, until the movement pauses.
 function drawWhenResting() {
     const [x, y] = [(drawn.x - view.x) / view.scale, (drawn.y - view.y) / view.scale];
     svg.style.transform = `translate(${x}px, ${y}px) scale(${drawn.scale / view.scale})`;
@@ -193,7 +193,7 @@ function drawWhenResting() {
     resting = setTimeout(draw, REST);
 }
 
-// The middle of the view stays within the picture.
+// Sets the view, and keeps its centre within the picture.
 function moveTo(x, y, scale) {
     isWhole = false;
     const [middleX, middleY] = [width * scale / 2, height * scale / 2];
@@ -208,7 +208,7 @@ function moveTo(x, y, scale) {
 
 const moveBy = (x, y) => moveTo(view.x - x * view.scale, view.y - y * view.scale, view.scale);
 
-// What is at a pixel stays there.
+// Zooms so that the point at a pixel stays there.
 function zoomAt(x, y, factor) {
     const scale = clamp(CLOSEST, view.scale * factor, 1.5 * wholeScale());
     moveTo(view.x + x * (view.scale - scale), view.y + y * (view.scale - scale), scale);
@@ -228,11 +228,11 @@ function measure() {
     if (isWhole) showWhole(); else { draw(); placeTip(); }
 }
 
-// ---- the city that is shown
+// ---- the selected city
 
-let shown = 0;                  // 0 if none is
+let shown = 0;                  // 0 if there is none
 
-// A number of units of 10^-9 as a decimal number. It may have more digits than a number of JavaScript holds, so it stays a text.
+// Converts units of 10^-9 into a decimal number. It may have more digits than a JavaScript number, so it remains a text.
 function decimal(units) {
     const sign = units.startsWith('-') ? '\u2212' : '';
     const digits = units.replace('-', '').padStart(10, '0');
@@ -281,7 +281,7 @@ function show(city) {
     placeTip();
 }
 
-// Shows a city that was asked for by keys: it is brought into the view, and said.
+// Shows a city that was selected by keys: moves the view to it, and announces it.
 function goTo(city) {
     show(city);
     const [x, y] = toPixels(city);
@@ -295,9 +295,9 @@ function step(by) {
     goTo(walk.at(turn % walk.length));
 }
 
-// ---- the route that is lit up
+// ---- the highlighted route
 
-let kept = -1;                  // the one that stays lit up when the pointer leaves its row; -1 if none
+let kept = -1;                  // the route that stays highlighted when the pointer leaves its row; -1 if none
 
 function light(k) {
     svg.classList.toggle('faded', k >= 0);
@@ -315,14 +315,14 @@ function keep(k) {
     status.textContent = `Route ${rows[k].name}: ${customers} customers, load ${load} (${share} %), length ${length}`;
 }
 
-// Lights up the route of a city, or ends that.
+// Highlights the route of a city, or ends the highlighting.
 function keepOf(city) {
     if (table === null) return;
     keep(city > 0 && pathOf[city] !== kept ? pathOf[city] : -1);
     if (kept >= 0) scrollToRow(rows[kept].line);
 }
 
-// Scrolls the table to a row, where the table is a list beside the picture; the page itself is not scrolled.
+// Scrolls the table to a row if the table is next to the picture. The page itself is not scrolled.
 function scrollToRow(line) {
     const list = byId('routes'), top = line.offsetTop - list.scrollTop;
     if (top < 0 || top > list.clientHeight - line.offsetHeight) list.scrollTop = line.offsetTop - list.clientHeight / 2;
@@ -362,7 +362,7 @@ function sortBy(column, head) {
     table.tBodies[0].append(...listed.map(row => row.line));
 }
 
-// One button of the rows is in the order of Tab, the one that had the focus last; arrows go to the others.
+// Tab stops at only one button of the rows, the one that had the focus last; arrow keys go to the others.
 function holdFocus(event) {
     for (const row of rows) row.button.setAttribute('tabindex', row.button === event.target ? 0 : -1);
 }
@@ -384,7 +384,7 @@ if (table !== null) {
 
 // ---- keys and buttons
 
-// Zooms at the city that is shown, if it is in view.
+// Zooms at the selected city if it is in view, otherwise at the centre.
 function zoom(factor) {
     const [x, y] = shown > 0 ? toPixels(shown) : [-1, -1];
     if (x >= 0 && y >= 0 && x <= width && y <= height) zoomAt(x, y, factor); else zoomAt(width / 2, height / 2, factor);
@@ -425,8 +425,8 @@ asked.addEventListener('change', () => {
 
 // ---- pointers: a mouse, a pen, or fingers
 
-const held = new Map();         // where each pointer that is down was last
-let strayed = 0;                // how far they have gone since
+const held = new Map();         // the last position of each pointer that is down
+let strayed = 0;                // the distance that they have moved since
 
 function pixelsOf(event) {
     const box = stage.getBoundingClientRect();
@@ -435,7 +435,7 @@ function pixelsOf(event) {
 
 const cityAt = event => nearest(...toSpot(...pixelsOf(event)), REACH * view.scale / unit);
 
-// Two fingers move the picture by half of what one of them moves, and zoom it about the point between them.
+// If one of two fingers moves, the picture pans by half of its movement, and zooms about the point between the fingers.
 function pinch(from, to, other) {
     const before = Math.hypot(from[0] - other[0], from[1] - other[1]), after = Math.hypot(to[0] - other[0], to[1] - other[1]);
     moveBy((to[0] - from[0]) / 2, (to[1] - from[1]) / 2);
@@ -471,7 +471,7 @@ stage.addEventListener('wheel', event => {
     zoomAt(...pixelsOf(event), Math.exp(turned * 0.0015));
 }, { passive: false });
 
-// ---- sizes, and paper
+// ---- resizing and printing
 
 new ResizeObserver(measure).observe(stage);
 measure();

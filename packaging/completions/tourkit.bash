@@ -1,7 +1,7 @@
 # Completion for tourkit in bash. The package bash-completion finds it by its name; it needs nothing of that
 # package.
 
-# Offers those of these words that begin with the word at the cursor.
+# Offers the words among these that begin with the word at the cursor.
 _tourkit_words() {
     local found
     mapfile -t found < <(compgen -W "$1" -- "$word")
@@ -30,7 +30,7 @@ _tourkit_options() {
     esac
 }
 
-# Offers the command's next argument.
+# Offers values for the next argument of the command.
 _tourkit_arguments() {
     local place given=0
     for ((place = 2; place < COMP_CWORD; place++)); do
@@ -55,7 +55,7 @@ _tourkit() {
     local word=${COMP_WORDS[COMP_CWORD]} before=${COMP_WORDS[COMP_CWORD - 1]}
     local commands="check checksol explain matrix near plot solve help"
     COMPREPLY=()
-    # Bash takes --option=value for three words.
+    # Bash splits --option=value into three words.
     if [ "$word" = "=" ]; then
         word=
     elif [ "$before" = "=" ]; then

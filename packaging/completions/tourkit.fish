@@ -1,4 +1,4 @@
-# Completion for tourkit in fish. Where nothing else is said, fish offers files.
+# Completion for tourkit in fish. By default, fish offers files.
 
 complete -c tourkit -s h -l help -d 'Print help'
 complete -c tourkit -n __fish_use_subcommand -s V -l version -d 'Print version'

@@ -5,7 +5,7 @@ pub static BASH: &[u8] =
     br#"# Completion for tourkit in bash. The package bash-completion finds it by its name; it needs nothing of that
 # package.
 
-# Offers those of these words that begin with the word at the cursor.
+# Offers the words among these that begin with the word at the cursor.
 _tourkit_words() {
     local found
     mapfile -t found < <(compgen -W "$1" -- "$word")
@@ -34,7 +34,7 @@ _tourkit_options() {
     esac
 }
 
-# Offers the command's next argument.
+# Offers values for the next argument of the command.
 _tourkit_arguments() {
     local place given=0
     for ((place = 2; place < COMP_CWORD; place++)); do
@@ -59,7 +59,7 @@ _tourkit() {
     local word=${COMP_WORDS[COMP_CWORD]} before=${COMP_WORDS[COMP_CWORD - 1]}
     local commands="check checksol explain matrix near plot solve help"
     COMPREPLY=()
-    # Bash takes --option=value for three words.
+    # Bash splits --option=value into three words.
     if [ "$word" = "=" ]; then
         word=
     elif [ "$before" = "=" ]; then
@@ -83,7 +83,7 @@ complete -F _tourkit tourkit
 pub static ZSH: &[u8] = br#"#compdef tourkit
 # Completion for tourkit in zsh.
 
-# Offers what explain takes: the names of faults, and files.
+# Offers the arguments of explain: names of faults, and files.
 _tourkit_what() {
     local -a faults
     faults=(UnknownKeyword Repeated Missing Unsupported BadNumber OutOfLimit BadNode NotSymmetric Truncated TrailingData
@@ -168,8 +168,7 @@ _tourkit "$@"
 "#;
 
 /// The file `packaging/completions/tourkit.fish`.
-pub static FISH: &[u8] =
-    br#"# Completion for tourkit in fish. Where nothing else is said, fish offers files.
+pub static FISH: &[u8] = br#"# Completion for tourkit in fish. By default, fish offers files.
 
 complete -c tourkit -s h -l help -d 'Print help'
 complete -c tourkit -n __fish_use_subcommand -s V -l version -d 'Print version'
