@@ -1,6 +1,6 @@
 #!/bin/sh
 # Times near_lists (lists of 5 and of 100) and nearest_tour (100,000 cities) against plain Rust, in turn on one core, and prints the
-# shortest time of each. The input is uniform cities, and kinds of cities that are hard for a sweep. The lists and the tours are compared.
+# shortest time of each. The cities are uniform, or placed in ways that are hard for a sweep. The lists and the tours are compared.
 # usage: bench/near/run.sh [ROUNDS [CORE]]
 set -e
 here=$(cd "$(dirname "$0")" && pwd)

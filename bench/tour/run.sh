@@ -1,7 +1,7 @@
 #!/bin/sh
 # Compares the time of a swap with that of the same loop in plain Rust at -O3, at 1,000 and at 100,000 cities.
 # Each line contains the cities, the nanoseconds per swap of the program and of plain Rust, and their ratio. Each time is the best of all
-# rounds, which alternate, with priority over other work on the machine if that is allowed.
+# rounds. The two programs run in turn, with priority over other work on the machine if that is allowed.
 # usage: bench/tour/run.sh [ROUNDS]
 set -e
 here=$(cd "$(dirname "$0")" && pwd)
