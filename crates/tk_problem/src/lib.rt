@@ -1,6 +1,7 @@
 //! What a problem is: places in the plane, explicit weights and their order, routing.
 #![tactic(auto)]
 
+mod laws;
 mod limits;
 mod lower_weights;
 mod place;
@@ -12,6 +13,7 @@ mod unit;
 mod weight_order;
 mod weights;
 
+pub use laws::limits_are_these_numbers;
 pub use limits::{
     CANDIDATE_LIMIT, CAPACITY_LIMIT, CITY_LIMIT, COORDINATE_LIMIT, DISTANCE_LIMIT, ENTRY_LIMIT,
     ROUTE_LIMIT, TABLE_LIMIT, TEXT_LIMIT,

@@ -11,12 +11,13 @@ pub use tk_problem::{
     CANDIDATE_LIMIT, CAPACITY_LIMIT, CITY_LIMIT, COORDINATE_LIMIT, DISTANCE_LIMIT, ENTRY_LIMIT,
     FORMATS, Format, LowerWeights, PLANE_KINDS, Place, Places, PlaneKind, Point, Points, Problem,
     ROUTE_LIMIT, Routing, SCALE, TABLE_LIMIT, TEXT_LIMIT, Unit, WeightCursor, Weights, WholePoint,
+    limits_are_these_numbers,
 };
 pub use tk_problem_text::{decided_problems_stay, each_problem_text_has_an_answer, read_problem};
 pub use tk_words::{
     BUFFER_SIZE, Entry, Failed, FromRead, Keyword, Role, Source, Step, TextFault, TextKind,
-    TextReader, blank, decimal, each_word_spells_its_keyword, entry_of, feed_piece, integer,
-    keyword_in, letter, minus_one, read_text, spelled, word_byte,
+    TextReader, blank, buffer_size_is_this_number, decimal, each_word_spells_its_keyword, entry_of,
+    feed_piece, integer, keyword_in, letter, minus_one, read_text, spelled, word_byte,
 };
 pub use tk_writers::{
     Page, Pen, Sink, ToWrite, WriteFault, format_of, write_matrix, write_solution, write_tour,

@@ -4,6 +4,7 @@
 mod fault;
 mod held;
 mod keyword;
+mod laws;
 mod lexeme;
 mod numbers;
 mod sources;
@@ -11,6 +12,7 @@ mod sources;
 pub use fault::{TextFault, TextKind};
 pub use held::{Held, blank, blank_or_end, letter, spelled, word_byte};
 pub use keyword::{Keyword, Role, each_word_spells_its_keyword, keyword_of};
+pub use laws::buffer_size_is_this_number;
 pub use lexeme::Lexeme;
 pub use numbers::decimals::decimal;
 pub use numbers::entries::{Entry, begins_minus_one, entry_of, keyword_in, limited, minus_one};
