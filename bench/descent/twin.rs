@@ -268,8 +268,14 @@ fn run(name: &str, plane: &Plane, near: &Near, order: &[u32], look: fn(&Tour, &P
     }
 }
 
+/// Whether a call asks for the small run, whose results are those of `tk_bench`'s small run.
+fn is_small() -> bool {
+    std::env::args().any(|word| word == "small")
+}
+
 fn main() {
-    for (n, width) in [(1000, 52632), (100_000, 5465)] {
+    let sizes: &[(u32, u64)] = if is_small() { &[(100, 166_667)] } else { &[(1000, 52632), (100_000, 5465)] };
+    for &(n, width) in sizes {
         let mut state = 12345;
         let plane = Plane { places: (0..n).map(|_| (drawn(&mut state) as f64, drawn(&mut state) as f64)).collect() };
         let near = Near::new(&plane, 5);

@@ -3,8 +3,6 @@
 use std::hint::black_box;
 use std::time::Instant;
 
-const PLACES: usize = 4_200;
-const STEPS: usize = 200;
 const UNIT: i64 = 1_000_000_000;
 
 fn next(state: &mut u64) -> u64 {
@@ -194,13 +192,20 @@ fn fine_att(a: Fine, b: Fine) -> i64 {
 
 // ---- timing
 
-fn time<P: Copy>(name: &str, span: i64, places: &[P], dist: impl Fn(P, P) -> i64) {
+/// How many places there are. Distances are measured between places that are fewer than `steps` apart in their list.
+#[derive(Clone, Copy)]
+struct Sizes {
+    places: usize,
+    steps: usize,
+}
+
+fn time<P: Copy>(name: &str, span: i64, steps: usize, places: &[P], dist: impl Fn(P, P) -> i64) {
     let mut best = u128::MAX;
     let mut sum = 0u64;
     for _ in 0..7 {
         let start = Instant::now();
         sum = 0;
-        for step in 1..STEPS {
+        for step in 1..steps {
             let step = black_box(step);
             for a in 0..places.len() - step {
                 sum = sum.wrapping_add(dist(places[a], places[a + step]) as u64);
@@ -209,27 +214,37 @@ fn time<P: Copy>(name: &str, span: i64, places: &[P], dist: impl Fn(P, P) -> i64
         best = best.min(start.elapsed().as_nanos());
         black_box(sum);
     }
-    let pairs = (PLACES - STEPS / 2) * (STEPS - 1);
+    let pairs = (places.len() - steps / 2) * (steps - 1);
     println!("{name} {span} {sum} {}", best * 1_000 / pairs as u128);
 }
 
 /// Coordinates that are whole numbers of a unit, in 32 bits where these are enough.
-fn time_units(name: &str, span: i64, units: i64) {
+fn time_units(name: &str, span: i64, sizes: Sizes, units: i64) {
     let unit = UNIT / units;
     let mut state = 42;
     let fine: Vec<Fine> =
-        (0..PLACES).map(|_| (coordinate(&mut state, span, unit), coordinate(&mut state, span, unit))).collect();
+        (0..sizes.places).map(|_| (coordinate(&mut state, span, unit), coordinate(&mut state, span, unit))).collect();
     if span * units > UNIT {
-        return time(name, span, &fine, fine_exact);
+        return time(name, span, sizes.steps, &fine, fine_exact);
     }
     let places: Vec<Whole> = fine.iter().map(|(x, y)| ((x / unit) as i32, (y / unit) as i32)).collect();
-    time(name, span, &places, |a, b| unit_exact(a, b, units as u64));
+    time(name, span, sizes.steps, &places, |a, b| unit_exact(a, b, units as u64));
+}
+
+/// Whether a call asks for the small run, whose results are those of `tk_bench`'s small run.
+fn is_small() -> bool {
+    std::env::args().any(|word| word == "small")
 }
 
 fn main() {
-    for span in [10, 1_000, 1_000_000, 100_000_000, 1_000_000_000] {
+    let (spans, sizes): (&[i64], Sizes) = if is_small() {
+        (&[10, 1_000_000, 1_000_000_000], Sizes { places: 60, steps: 10 })
+    } else {
+        (&[10, 1_000, 1_000_000, 100_000_000, 1_000_000_000], Sizes { places: 4_200, steps: 200 })
+    };
+    for &span in spans {
         let mut state = 42;
-        let whole: Vec<Whole> = (0..PLACES)
+        let whole: Vec<Whole> = (0..sizes.places)
             .map(|_| {
                 let x = coordinate(&mut state, span, UNIT) / UNIT;
                 let y = coordinate(&mut state, span, UNIT) / UNIT;
@@ -237,22 +252,22 @@ fn main() {
             })
             .collect();
         let mut state = 42;
-        let fine: Vec<Fine> = (0..PLACES)
+        let fine: Vec<Fine> = (0..sizes.places)
             .map(|_| {
                 let x = coordinate(&mut state, span, 1);
                 let y = coordinate(&mut state, span, 1);
                 (x, y)
             })
             .collect();
-        time("EUC_2D/whole", span, &whole, whole_exact);
-        time_units("EUC_2D/tenths", span, 10);
-        time_units("EUC_2D/thousandths", span, 1_000);
-        time("EUC_2D/decimals", span, &fine, fine_exact);
-        time("CEIL_2D/whole", span, &whole, whole_ceiling);
-        time("CEIL_2D/decimals", span, &fine, fine_ceiling);
-        time("ATT/whole", span, &whole, whole_att);
-        time("ATT/decimals", span, &fine, fine_att);
-        time("naive/whole", span, &whole, whole_naive);
-        time("naive/decimals", span, &fine, fine_naive);
+        time("EUC_2D/whole", span, sizes.steps, &whole, whole_exact);
+        time_units("EUC_2D/tenths", span, sizes, 10);
+        time_units("EUC_2D/thousandths", span, sizes, 1_000);
+        time("EUC_2D/decimals", span, sizes.steps, &fine, fine_exact);
+        time("CEIL_2D/whole", span, sizes.steps, &whole, whole_ceiling);
+        time("CEIL_2D/decimals", span, sizes.steps, &fine, fine_ceiling);
+        time("ATT/whole", span, sizes.steps, &whole, whole_att);
+        time("ATT/decimals", span, sizes.steps, &fine, fine_att);
+        time("naive/whole", span, sizes.steps, &whole, whole_naive);
+        time("naive/decimals", span, sizes.steps, &fine, fine_naive);
     }
 }

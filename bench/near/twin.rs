@@ -1,7 +1,6 @@
 //! Near lists and nearest-neighbour tours by a k-d tree in plain Rust (J. L. Bentley, 1975).
 use std::time::Instant;
 
-const CITIES: u32 = 100_000;
 const SCALE: i64 = 1_000_000_000;
 const LEAF: usize = 8;
 
@@ -224,14 +223,14 @@ fn place(input: &str, i: u32, r: u32, s: u32) -> (i64, i64) {
     }
 }
 
-fn sample(input: &str) -> Vec<Place> {
+fn sample(input: &str, cities: u32) -> Vec<Place> {
     let mut state: u64 = 20250101;
     let mut draw = || {
         state = state.wrapping_mul(6364136223846793005).wrapping_add(1442695040888963407);
         (state >> 33) as u32
     };
     let unit = if input == "decimals" { 1 } else { SCALE };
-    (0..CITIES)
+    (0..cities)
         .map(|i| {
             let (r, s) = (draw(), draw());
             let (x, y) = place(input, i, r, s);
@@ -244,18 +243,24 @@ fn digest(cities: &[u32]) -> u64 {
     cities.iter().fold(0, |digest: u64, city| digest.wrapping_mul(31).wrapping_add(*city as u64))
 }
 
+/// Whether a call asks for the small run, whose results are those of `tk_bench`'s small run.
+fn is_small() -> bool {
+    std::env::args().any(|word| word == "small")
+}
+
 fn main() {
+    let (cities, long) = if is_small() { (100, 20) } else { (100_000, 100) };
     for input in ["uniform", "one_place", "lattice", "axes", "columns", "clusters", "diagonal", "decimals"] {
         let unit = if input == "decimals" { SCALE } else { 1 };
-        for k in [5, 100] {
-            let places = sample(input);
+        for k in [5, long] {
+            let places = sample(input, cities);
             let start = Instant::now();
             let entries = near_lists(places, unit, k);
             println!("{input} near-{k} {} {}", start.elapsed().as_micros(), digest(&entries));
         }
-        let places = sample(input);
+        let places = sample(input, cities);
         let start = Instant::now();
-        let cities = nearest_tour(places, unit);
-        println!("{input} start {} {}", start.elapsed().as_micros(), digest(&cities));
+        let tour = nearest_tour(places, unit);
+        println!("{input} start {} {}", start.elapsed().as_micros(), digest(&tour));
     }
 }

@@ -1,9 +1,10 @@
 //! `tourkit check` in plain Rust: it reads the same files, with the same checks, and prints the same line.
 //!
 //! usage: twin check PROBLEM TOUR
-//!        twin instances DIR
+//!        twin instances DIR [DIVISOR]
 //!
-//! The second form writes the problems that run.sh reads, each NAME.tsp with a tour NAME.tour, to a directory.
+//! The second form writes the problems that run.sh reads, each NAME.tsp with a tour NAME.tour, to a directory. Their sizes are divided by
+//! DIVISOR.
 
 #[allow(dead_code)]
 #[path = "../solve/text.rs"]
@@ -102,7 +103,7 @@ fn weight(row: usize, column: usize, digits: Option<u32>) -> u64 {
     10u64.pow(digits - 1) + draw.below(9 * 10u64.pow(digits - 1))
 }
 
-fn instances(folder: &str) {
+fn instances(folder: &str, divisor: usize) {
     let mut draw = Draw(12345);
     let write = |name: &str, n: usize, problem: String| {
         let cities: String = (1..=n).map(|city| format!("{city}\n")).collect();
@@ -111,19 +112,21 @@ fn instances(folder: &str) {
             std::fs::write(format!("{folder}/{name}.{suffix}"), text).unwrap_or_else(|_| fail(3, format!("{folder}: cannot be written")));
         }
     };
-    write("full5000", 5000, matrix(5000, "FULL_MATRIX", |_| 5000, |a, b| weight(a, b, Some(4))));
-    write("lower5000", 5000, matrix(5000, "LOWER_DIAG_ROW", |row| row + 1, |a, b| weight(a, b, Some(4))));
-    write("mixed5000", 5000, matrix(5000, "LOWER_DIAG_ROW", |row| row + 1, |a, b| weight(a, b, None)));
-    write("cities100000", 100_000, places(100_000, || draw.below(1_000_001).to_string()));
-    write("hundredths100000", 100_000, places(100_000, || format!("{}.{:02}", draw.below(10_000), draw.below(100))));
-    write("long100000", 100_000, places(100_000, || format!("{}.{:06}", draw.below(10_000), draw.below(1_000_000))));
+    let (few, many) = (5000 / divisor, 100_000 / divisor);
+    write(&format!("full{few}"), few, matrix(few, "FULL_MATRIX", |_| few, |a, b| weight(a, b, Some(4))));
+    write(&format!("lower{few}"), few, matrix(few, "LOWER_DIAG_ROW", |row| row + 1, |a, b| weight(a, b, Some(4))));
+    write(&format!("mixed{few}"), few, matrix(few, "LOWER_DIAG_ROW", |row| row + 1, |a, b| weight(a, b, None)));
+    write(&format!("cities{many}"), many, places(many, || draw.below(1_000_001).to_string()));
+    write(&format!("hundredths{many}"), many, places(many, || format!("{}.{:02}", draw.below(10_000), draw.below(100))));
+    write(&format!("long{many}"), many, places(many, || format!("{}.{:06}", draw.below(10_000), draw.below(1_000_000))));
 }
 
 fn main() {
     let words: Vec<String> = std::env::args().skip(1).collect();
     match words.iter().map(String::as_str).collect::<Vec<_>>()[..] {
         ["check", problem, tour] => check(problem, tour),
-        ["instances", folder] => instances(folder),
-        _ => fail(64, "usage: twin check PROBLEM TOUR | twin instances FOLDER".to_string()),
+        ["instances", folder] => instances(folder, 1),
+        ["instances", folder, divisor] => instances(folder, divisor.parse().unwrap_or(1)),
+        _ => fail(64, "usage: twin check PROBLEM TOUR | twin instances FOLDER [DIVISOR]".to_string()),
     }
 }

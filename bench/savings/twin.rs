@@ -132,9 +132,15 @@ fn time(name: &str, count: usize, k: usize, wide: u64, tall: u64) {
     println!("{name} {count} K {k} lists: {micros} us, lists {}, cities {}", lists.len(), digest(lists.iter().flatten().copied()));
 }
 
+/// Whether a call asks for the small run, whose results are those of `tk_bench`'s small run.
+fn is_small() -> bool {
+    std::env::args().any(|word| word == "small")
+}
+
 fn main() {
+    let count = if is_small() { 100 } else { 100_000 };
     for k in [5, 10] {
-        time("square", 100000, k, 1000000, 1000000);
-        time("strip", 100000, k, 1000000, 100);
+        time("square", count, k, 1000000, 1000000);
+        time("strip", count, k, 1000000, 100);
     }
 }

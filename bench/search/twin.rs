@@ -409,8 +409,15 @@ impl Pcg32 {
     }
 }
 
+/// Whether a call asks for the small run, whose results are those of `tk_bench`'s small run.
+fn is_small() -> bool {
+    std::env::args().any(|word| word == "small")
+}
+
 fn main() {
-    for (n, width, trials) in [(1000, 52632, 30_000), (10_000, 17242, 10_000), (100_000, 5465, 1000)] {
+    let sizes: &[(u32, u64, u32)] =
+        if is_small() { &[(100, 166_667, 100)] } else { &[(1000, 52632, 30_000), (10_000, 17242, 10_000), (100_000, 5465, 1000)] };
+    for &(n, width, trials) in sizes {
         let mut state = 12345;
         let plane = Plane { places: (0..n).map(|_| (drawn(&mut state) as f64, drawn(&mut state) as f64)).collect() };
         let near = Near::new(&plane, 5);

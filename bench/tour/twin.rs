@@ -79,8 +79,14 @@ fn flip_often(tour: &mut ArrayTour, flips: u32) -> u32 {
     tour.next(1)
 }
 
+/// Whether a call asks for the small run, whose results are those of `tk_bench`'s small run.
+fn is_small() -> bool {
+    std::env::args().any(|word| word == "small")
+}
+
 fn main() {
-    for (n, flips) in [(1000, 400000), (100000, 4000)] {
+    let sizes: &[(u32, u32)] = if is_small() { &[(100, 1000)] } else { &[(1000, 400000), (100000, 4000)] };
+    for &(n, flips) in sizes {
         let mut tour = ArrayTour::new(n);
         let begin = Instant::now();
         let after = flip_often(&mut tour, flips);
