@@ -20,7 +20,7 @@ impl FileFault {
     }
 }
 
-/// The line and the fault, as other commands tell them.
+/// The line and the fault, as other commands print them.
 impl fmt::Display for FileFault {
     fn fmt<W: fmt::Write>(&self, f: &mut fmt::Formatter<W>) -> fmt::Result {
         match self {

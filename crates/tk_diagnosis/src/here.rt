@@ -1,4 +1,4 @@
-//! What stands at the line of a fault: what was wanted there, what was read, and what to do.
+//! Diagnoses of faults: what was expected at the line of a fault, what was found there, and what to do.
 mod ends;
 mod missing;
 mod numbers;
@@ -14,7 +14,7 @@ use crate::spot::{Here, Spot};
 use std::alloc::AllocError;
 use tk_words::TextKind;
 
-/// What stands at the line of a fault.
+/// The diagnosis of a fault at its line.
 ///
 /// # Errors
 /// `AllocError` if memory runs out.
@@ -28,7 +28,7 @@ pub fn here_at<'a>(spot: &Spot<'a>, fault: &FileFault) -> Result<Here<'a>, Alloc
     }
 }
 
-/// What stands at the line of a fault of a problem or a tour.
+/// The diagnosis of a fault of a problem or a tour.
 fn of_text<'a>(spot: &Spot<'a>, kind: TextKind) -> Result<Here<'a>, AllocError> {
     match kind {
         TextKind::UnknownKeyword => words::unknown(spot),
@@ -39,7 +39,7 @@ fn of_text<'a>(spot: &Spot<'a>, kind: TextKind) -> Result<Here<'a>, AllocError> 
     }
 }
 
-/// The same for a fault that the line and a few others show.
+/// Like `of_text`, for the kinds of faults whose diagnosis takes no memory.
 fn decided<'a>(spot: &Spot<'a>, kind: TextKind) -> Here<'a> {
     match kind {
         TextKind::Repeated => words::repeated(spot),

@@ -1,9 +1,9 @@
-//! What kind of file it is.
+//! The kinds of files, and how the kind of a file is recognized.
 use crate::lines::{first_token, lines_of, split_word, value_behind};
 use tk_params::key_of;
 use tk_words::{Keyword, keyword_of, spelled};
 
-/// What a file holds.
+/// The kind of a file.
 #[derive(Clone, Copy, PartialEq, Eq)]
 pub enum Kind {
     Problem,
@@ -50,7 +50,7 @@ pub fn is_other_key(word: &[u8]) -> bool {
     false
 }
 
-/// The kind that a file's lines show, or else its name.
+/// The kind of a file, recognized by its lines or, if they do not show it, by its name.
 pub fn kind_of(text: &[u8], name: &str) -> Kind {
     let text = text.strip_prefix(b"\xef\xbb\xbf").unwrap_or(text);
     for line in lines_of(text) {
@@ -61,7 +61,7 @@ pub fn kind_of(text: &[u8], name: &str) -> Kind {
     kind_named(name)
 }
 
-/// The kind of the only files that have such a line.
+/// The only kind of file that contains such a line; `None` if the line does not decide it.
 fn kind_shown(line: &[u8]) -> Option<Kind> {
     let (word, rest) = split_word(line);
     if spelled(word, b"ROUTE") || spelled(word, b"COST") {
@@ -82,12 +82,12 @@ fn kind_shown(line: &[u8]) -> Option<Kind> {
     }
 }
 
-/// Whether an equals sign comes first.
+/// Whether these bytes begin with an equals sign, after any blanks.
 fn is_assigned(rest: &[u8]) -> bool {
     rest.trim_ascii_start().starts_with(b"=")
 }
 
-/// The kind that the end of a name says: a problem for any other end.
+/// The kind that the ending of a name means; a problem for any other ending.
 fn kind_named(name: &str) -> Kind {
     if name.ends_with(".tour") {
         Kind::Tour
@@ -100,7 +100,7 @@ fn kind_named(name: &str) -> Kind {
     }
 }
 
-/// Whether the first line that is not blank and no comment begins with a key of parameter files.
+/// Whether the first line that is neither blank nor a comment begins with a key of parameter files.
 pub fn begins_with_key(text: &[u8]) -> bool {
     for line in lines_of(text) {
         let line = line.bytes.trim_ascii_start();

@@ -1,5 +1,5 @@
-//! What a file has at the line of a fault: what was wanted there, what was read and what to do, in words; what kind of
-//! file it is, and what its other lines are taken for.
+//! Diagnoses of files: what was expected at the line of a fault, what was found there and what to do, as sentences.
+//! Also the kind of a file, and how its other lines are read.
 #![tactic(auto)]
 
 mod fault;

@@ -7,18 +7,18 @@ ghost use Rattle.tk_diagnosis.specs.Lines.{after_front_word};
 
 use tk_words::{Keyword, blank, keyword_of, letter, word_byte};
 
-/// A word or a line of a text, with the number of the line, from 1.
+/// A line of a text or a part of it, with the number of the line, counted from 1.
 #[derive(Clone, Copy)]
 pub struct Found<'a> {
     pub line: u64,
     pub bytes: &'a [u8],
 }
 
-/// The lines of a text, each with its number. After a final line feed, the last line is empty.
+/// The lines of a text, each with its number. If the text ends with a line feed, the last line is empty.
 #[derive(Drop)]
 pub struct Lines<'a> {
     rest: &'a [u8],
-    /// How many lines came.
+    /// The number of lines that have been returned.
     count: u64,
     is_ended: bool,
 }
@@ -54,7 +54,7 @@ impl<'a> Iterator for Lines<'a> {
     }
 }
 
-/// How many bytes stand before the first that is this one.
+/// The number of bytes before the first one that equals `sign`, or of all bytes if none does.
 pub fn length_before(bytes: &[u8], sign: u8) -> usize
     ensures { result ≤ length bytes.now }
 {
@@ -66,7 +66,7 @@ pub fn length_before(bytes: &[u8], sign: u8) -> usize
     bytes.len()
 }
 
-/// The line of this number.
+/// The line with this number, if there is one.
 pub fn line_at(text: &[u8], number: u64) -> Option<&[u8]> {
     for Found { line, bytes } in lines_of(text) {
         if line == number {
@@ -89,7 +89,7 @@ pub fn last_line(text: &[u8]) -> u64
     line
 }
 
-/// The bytes from the first one that is no blank on.
+/// The bytes without the blanks at their front.
 fn without_blanks(bytes: &[u8]) -> &[u8]
     ensures rest { result.now ≡ behind is_blank bytes.now }
     ensures within { length result.now ≤ length bytes.now }
@@ -102,7 +102,7 @@ fn without_blanks(bytes: &[u8]) -> &[u8]
     &[]
 }
 
-/// How many bytes of a word stand at the front.
+/// The number of bytes of the word at the front of a line.
 fn word_end(line: &[u8]) -> usize
     ensures within { result ≤ length line.now }
     ensures rest { drop result line.now ≡ behind is_word_byte line.now }
@@ -115,7 +115,8 @@ fn word_end(line: &[u8]) -> usize
     line.len()
 }
 
-/// The word at the front of a line, and what follows it. The word is empty if the line does not begin with a letter.
+/// The word at the front of a line, after blanks, and the bytes after it. The word is empty if the line does not begin
+/// with a letter.
 pub fn split_word(line: &[u8]) -> (&[u8], &[u8])
     ensures rest { result.1.now ≡ after_front_word (behind is_blank line.now) }
     ensures whole { result.0.now ++ result.1.now ≡ behind is_blank line.now }
@@ -132,7 +133,7 @@ pub fn keyword_at(line: &[u8]) -> Option<Keyword> {
     keyword_of(split_word(line).0)
 }
 
-/// What a line says after its first word and a sign, as `:` or `=`, without outer blanks.
+/// The bytes after the first word of a line and an optional sign, such as `:` or `=`, without outer blanks.
 pub fn value_behind(line: &[u8], sign: u8) -> &[u8] {
     let rest = without_blanks(split_word(line).1);
     match rest.split_first() {
@@ -141,13 +142,13 @@ pub fn value_behind(line: &[u8], sign: u8) -> &[u8] {
     }
 }
 
-/// The tokens of bytes: what stands between blanks.
+/// The tokens of these bytes, which are separated by blanks.
 #[derive(Drop)]
 pub struct Tokens<'a> {
     rest: &'a [u8],
 }
 
-/// The tokens of bytes.
+/// The tokens of these bytes.
 pub fn tokens_of(bytes: &[u8]) -> Tokens<'_> {
     Tokens { rest: bytes }
 }
@@ -168,7 +169,7 @@ impl<'a> Iterator for Tokens<'a> {
     }
 }
 
-/// How many bytes stand before the first blank.
+/// The number of bytes before the first blank, or of all bytes if there is none.
 fn token_end(bytes: &[u8]) -> usize
     ensures { result ≤ length bytes.now }
 {
@@ -185,15 +186,15 @@ pub fn first_token(bytes: &[u8]) -> &[u8] {
     tokens_of(bytes).next().unwrap_or(b"".as_slice())
 }
 
-/// How many tokens the bytes have.
+/// The number of tokens in these bytes.
 pub fn count_tokens(bytes: &[u8]) -> u64 {
     tokens_of(bytes).count() as u64
 }
 
-/// The token after so many others, or how many are still to come after these bytes.
+/// The token after `others` other tokens.
 ///
 /// # Errors
-/// The number that is left, if there are not as many tokens.
+/// If there are fewer tokens, the number of others that come after these bytes.
 pub fn token_after(bytes: &[u8], others: u64) -> Result<&[u8], u64> {
     let mut left = others;
     for token in tokens_of(bytes) {
@@ -205,7 +206,7 @@ pub fn token_after(bytes: &[u8], others: u64) -> Result<&[u8], u64> {
     Err(left)
 }
 
-/// The first line that begins with a keyword: its number, and its value.
+/// The number and the value of the first line that begins with this keyword; `None` if there is none before EOF.
 pub fn header(text: &[u8], word: Keyword) -> Option<Found<'_>> {
     for Found { line, bytes } in lines_of(text) {
         match keyword_at(bytes) {
@@ -222,7 +223,7 @@ pub fn header(text: &[u8], word: Keyword) -> Option<Found<'_>> {
     None
 }
 
-/// The number of the first line that begins with a keyword: 1 if there is none.
+/// The number of the first line that begins with this keyword; 1 if there is none before EOF.
 pub fn header_line(text: &[u8], word: Keyword) -> u64 {
     match header(text, word) {
         Some(found) => found.line,

@@ -1,11 +1,12 @@
-//! The word that is meant by a misspelt one.
+//! The name that is nearest to a misspelt word.
 use std::alloc::{AllocError, Global};
 use strsim::generic_levenshtein;
 
-/// The most bytes of a word that is compared.
+/// Maximum number of bytes of a word that are compared.
 const LENGTH: usize = 40;
 
-/// The first of the names, in capitals, that the fewest edits make of a word: at most two, or a quarter of its bytes.
+/// The name with the smallest edit distance from a word; the first one, if there are several. Names are in capitals.
+/// The distance is at most 2, or a quarter of the word's bytes if that is more.
 ///
 /// # Errors
 /// `AllocError` if memory runs out.

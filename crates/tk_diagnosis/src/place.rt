@@ -1,4 +1,4 @@
-//! Where a line stands in a problem or a tour text, read line by line and without regard to faults.
+//! The position of a line in a problem or a tour text, which is read line by line and without regard to faults.
 ghost use Rattle.std.specs.Prelude.{◌≤◌};
 
 use crate::lines::{
@@ -7,14 +7,14 @@ use crate::lines::{
 };
 use tk_words::{Keyword, Role, integer};
 
-/// A section, and how many of its numbers stand before a line.
+/// A position in a section: the section, and the count of its numbers before a line.
 #[derive(Clone, Copy)]
 pub struct Place {
     pub section: Keyword,
     pub numbers: u64,
 }
 
-/// How many numbers an entry of a section has.
+/// The length of an entry of a section, in numbers.
 pub fn entry_width(section: Keyword) -> u64
     ensures some { 1 ≤ result }
 {
@@ -25,7 +25,7 @@ pub fn entry_width(section: Keyword) -> u64
     }
 }
 
-/// The section whose numbers may stand on a line, if one has begun before it and no other keyword has come since.
+/// The position before this line, if it is in a section: no other keyword has followed that of the section.
 pub fn place_of(text: &[u8], number: u64) -> Option<Place> {
     let mut place = None;
     for Found { line, bytes } in lines_of(text) {
@@ -37,7 +37,7 @@ pub fn place_of(text: &[u8], number: u64) -> Option<Place> {
     place
 }
 
-/// The place after a line.
+/// The position after a line, given the one before it.
 fn place_after(place: Option<Place>, line: &[u8]) -> Option<Place> {
     if let Some(word) = keyword_at(line) {
         if word.role() != Role::BeginsSection {
@@ -55,7 +55,7 @@ fn place_after(place: Option<Place>, line: &[u8]) -> Option<Place> {
     })
 }
 
-/// How many numbers a section has, up to the next keyword.
+/// The count of the numbers in a section, up to the next keyword.
 pub fn numbers_in(text: &[u8], section: Keyword) -> u64 {
     let mut place = None;
     for line in lines_of(text) {
@@ -72,7 +72,7 @@ pub fn numbers_in(text: &[u8], section: Keyword) -> u64 {
     }
 }
 
-/// Whether a place is in a section.
+/// Whether a position is in this section.
 fn is_in(place: Option<Place>, section: Keyword) -> bool {
     match place {
         Some(place) => place.section == section,
@@ -80,7 +80,7 @@ fn is_in(place: Option<Place>, section: Keyword) -> bool {
     }
 }
 
-/// How many numbers stand before a place.
+/// The count of the numbers before a position, in its section.
 fn count_of(place: Option<Place>) -> u64 {
     match place {
         Some(place) => place.numbers,
@@ -88,7 +88,7 @@ fn count_of(place: Option<Place>) -> u64 {
     }
 }
 
-/// The part of a line that has numbers of a section.
+/// The part of a line that can contain numbers of a section.
 fn numbers_on(line: &[u8]) -> &[u8] {
     match keyword_at(line) {
         Some(_) => value_behind(line, b':'),
@@ -96,7 +96,7 @@ fn numbers_on(line: &[u8]) -> &[u8] {
     }
 }
 
-/// A number of a section, counted from 0.
+/// The number with this index in a section, counted from 0, and its line.
 pub fn number_at(text: &[u8], section: Keyword, index: u64) -> Option<Found<'_>> {
     let mut place = None;
     let mut left = index;
@@ -113,7 +113,7 @@ pub fn number_at(text: &[u8], section: Keyword, index: u64) -> Option<Found<'_>>
     None
 }
 
-/// How many numbers of a section stand before the first entry with this node: `None` if there is no such entry.
+/// The index, among the numbers of a section, of the first entry with this node; `None` if there is no such entry.
 pub fn node_index(text: &[u8], section: Keyword, node: i64) -> Option<u64> {
     let mut place = None;
     for line in lines_of(text) {
@@ -133,7 +133,7 @@ pub fn node_index(text: &[u8], section: Keyword, node: i64) -> Option<u64> {
     None
 }
 
-/// The same on one line, before which so many numbers of the section stand.
+/// Like `node_index`, for one line; `begun` numbers of the section come before it.
 fn node_on(line: &[u8], section: Keyword, begun: u64, node: i64) -> Option<u64> {
     let mut index = begun;
     let width = entry_width(section);
@@ -146,17 +146,18 @@ fn node_on(line: &[u8], section: Keyword, begun: u64, node: i64) -> Option<u64> 
     None
 }
 
-/// The number that a header says, if it is there and says one.
+/// The number that is the value of a header, if there is one.
 pub fn header_number(text: &[u8], word: Keyword) -> Option<u64> {
     natural(first_token(header(text, word)?.bytes))
 }
 
-/// The number that bytes spell, if they spell one that is not negative.
+/// The number that these bytes spell, if they spell an integer that is not negative.
 pub fn natural(bytes: &[u8]) -> Option<u64> {
     u64::try_from(integer(bytes)?).ok()
 }
 
-/// The first line of a section, up to a line, on which an entry is not whole: its number, and how many numbers it has.
+/// The first line of a section, up to line `last`, that has an incomplete entry: its line number, and the count of its
+/// numbers.
 pub fn uneven_line(text: &[u8], section: Keyword, last: u64) -> Option<(u64, u64)> {
     let mut place = None;
     let width = entry_width(section);

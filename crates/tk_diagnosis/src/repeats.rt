@@ -4,31 +4,31 @@ use crate::place::{entry_width, natural};
 use std::alloc::{AllocError, Global};
 use tk_words::Keyword;
 
-/// A node that comes a second time, and the line that has it first.
+/// A repeated node, and the first line with it.
 #[derive(Clone, Copy)]
 pub struct Repeat {
     pub node: u64,
     pub first: u64,
 }
 
-/// The lines on which nodes were named, and how many numbers came.
+/// The lines on which nodes have been named, and the count of the numbers that have been read.
 #[derive(Drop)]
 struct Named {
-    /// Of each node the line that has it first, 0 for none. Node k stands at index k.
+    /// For each node, the first line with it, or 0 if there is none. Node k is at index k.
     lines: Vec<u64>,
     numbers: u64,
     width: u64,
 }
 
 impl Named {
-    /// Counts a number of the section, and says whether it begins an entry.
+    /// Counts a number of the section, and returns whether it begins an entry.
     fn begins_entry(&mut self) -> bool {
         let begins = self.numbers.checked_rem(self.width) == Some(0);
         self.numbers = self.numbers.saturating_add(1);
         begins
     }
 
-    /// Takes a number of the section, and says whether it is a node that was named before.
+    /// Takes a number of the section, and returns it as a repeated node if it is a node that has been named before.
     fn take(&mut self, bytes: &[u8], line: u64) -> Option<Repeat> {
         if !self.begins_entry() {
             return None;
@@ -45,7 +45,7 @@ impl Named {
         None
     }
 
-    /// Takes the numbers of a line, up to a node that was named before.
+    /// Takes the numbers of a line, up to a repeated node.
     fn take_line(&mut self, bytes: &[u8], line: u64) -> Option<Repeat> {
         for token in tokens_of(bytes) {
             if let Some(repeat) = self.take(token, line) {
@@ -55,7 +55,7 @@ impl Named {
         None
     }
 
-    /// Takes the lines of a section, up to a node that was named before.
+    /// Takes the lines of a section, up to a repeated node.
     fn take_section(&mut self, text: &[u8], section: Keyword) -> Option<Repeat> {
         let mut is_open = false;
         for Found { line, bytes } in lines_of(text) {
@@ -71,10 +71,10 @@ impl Named {
     }
 }
 
-/// The first node of 1 to `size` that a section names a second time.
+/// The first node from 1 to `size` that a section names a second time.
 ///
 /// # Errors
-/// `AllocError` if there is no memory for a line number for each node.
+/// `AllocError` if memory runs out.
 pub fn first_repeat(
     alloc: Global,
     text: &[u8],

@@ -1,10 +1,10 @@
-//! Sentences about a file, with what was found there in them.
+//! Sentences about a file, with values from it.
 use crate::shown::shown_word;
 use std::fmt;
 use tk_params::Key;
 use tk_words::Keyword;
 
-/// What stands in a place of a sentence.
+/// A value of a sentence, which replaces one of its `{}`.
 #[derive(Clone, Copy)]
 enum Value {
     Nothing,
@@ -18,11 +18,11 @@ enum Value {
     Word,
 }
 
-/// The most values of a sentence.
+/// Maximum number of values of a sentence.
 const VALUES: usize = 6;
 
-/// A sentence with values, which stand in the places of its `{}`, in order. At most one of them is a text, and at most
-/// one a word of the file.
+/// A sentence with values, which replace its `{}` in order. At most one of them is a text, and at most one is a word of
+/// the file.
 #[derive(Clone, Copy)]
 pub struct Sentence<'a> {
     form: &'static str,
@@ -33,7 +33,7 @@ pub struct Sentence<'a> {
 }
 
 impl<'a> Sentence<'a> {
-    /// A sentence whose values, if it has any, are to be added.
+    /// A sentence without values. If it has any, they are added afterwards.
     pub fn of(form: &'static str) -> Sentence<'a> {
         Sentence {
             form,
@@ -44,7 +44,7 @@ impl<'a> Sentence<'a> {
         }
     }
 
-    /// A word of the file, of which nothing is said.
+    /// A sentence that consists only of a word of the file.
     pub fn of_word(bytes: &'a [u8]) -> Sentence<'a> {
         Sentence::about("{}", bytes)
     }
@@ -54,7 +54,7 @@ impl<'a> Sentence<'a> {
         Sentence::of(form).word(word)
     }
 
-    /// A sentence about a value of the file, or that there is none.
+    /// A sentence about a value of the file, or `no value` if it is empty.
     pub fn of_value(form: &'static str, bytes: &'a [u8]) -> Sentence<'a> {
         if bytes.is_empty() {
             Sentence::of("no value")
@@ -63,7 +63,7 @@ impl<'a> Sentence<'a> {
         }
     }
 
-    /// With the next value.
+    /// The sentence with its next value.
     fn with(self, value: Value) -> Sentence<'a> {
         let mut sentence = self;
         if let Some(place) = sentence.values.get_mut(self.count) {
@@ -73,12 +73,12 @@ impl<'a> Sentence<'a> {
         sentence
     }
 
-    /// With a number.
+    /// The sentence with a number as its next value.
     pub fn number(self, number: u64) -> Sentence<'a> {
         self.with(Value::Number(number))
     }
 
-    /// With the next numbers.
+    /// The sentence with numbers as its next values.
     pub fn numbers<const N: usize>(self, numbers: [u64; N]) -> Sentence<'a> {
         let mut sentence = self;
         for number in numbers {
@@ -87,29 +87,29 @@ impl<'a> Sentence<'a> {
         sentence
     }
 
-    /// With an integer, which may be negative.
+    /// The sentence with an integer, which can be negative, as its next value.
     pub fn integer(self, number: i64) -> Sentence<'a> {
         self.with(Value::Integer(number))
     }
 
-    /// With a keyword.
+    /// The sentence with a keyword as its next value.
     pub fn keyword(self, word: Keyword) -> Sentence<'a> {
         self.with(Value::Keyword(word))
     }
 
-    /// With a key.
+    /// The sentence with a key of parameter files as its next value.
     pub fn key(self, key: Key) -> Sentence<'a> {
         self.with(Value::Key(key))
     }
 
-    /// With its text.
+    /// The sentence with its text as its next value.
     pub fn text(self, text: &'static str) -> Sentence<'a> {
         let mut sentence = self.with(Value::Text);
         sentence.text = text;
         sentence
     }
 
-    /// With its word.
+    /// The sentence with its word as its next value.
     pub fn word(self, word: &'a [u8]) -> Sentence<'a> {
         let mut sentence = self.with(Value::Word);
         sentence.word = word;

@@ -1,20 +1,20 @@
 //! Bytes of a file, as an explanation shows them.
 use std::fmt;
 
-/// The most bytes of a line that are shown.
+/// Maximum number of bytes of a line that are shown.
 const LINE_WIDTH: usize = 76;
 
-/// The most bytes of a word that are shown.
+/// Maximum number of bytes of a word that are shown.
 const WORD_WIDTH: usize = 40;
 
-/// So many bytes at most, and two dots where there are more.
+/// Bytes that are shown up to a width, with two dots after them if there are more.
 #[derive(Clone, Copy)]
 pub struct Shown<'a> {
     bytes: &'a [u8],
     width: usize,
 }
 
-/// A line, without blanks at its end, cut to what fits a terminal.
+/// A line without blanks at its end, cut to `LINE_WIDTH` bytes.
 pub fn shown_line(line: &[u8]) -> Shown<'_> {
     Shown {
         bytes: line.trim_ascii_end(),
@@ -22,7 +22,7 @@ pub fn shown_line(line: &[u8]) -> Shown<'_> {
     }
 }
 
-/// A word or a value, cut to what a sentence can hold.
+/// A word or a value, cut to `WORD_WIDTH` bytes.
 pub fn shown_word(word: &[u8]) -> Shown<'_> {
     Shown {
         bytes: word,
@@ -43,7 +43,7 @@ impl fmt::Display for Shown<'_> {
     }
 }
 
-/// Writes a byte: as it is if it is a printable one of ASCII, a tab as a blank, and any other as its number.
+/// Writes a byte: a printable ASCII character as it is, a tab as a blank, and any other byte as its number.
 fn write_byte<W: fmt::Write>(f: &mut fmt::Formatter<W>, byte: u8) -> fmt::Result {
     if byte == b' ' || byte == b'\t' {
         f.write_char(' ')

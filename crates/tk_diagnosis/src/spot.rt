@@ -1,10 +1,10 @@
-//! The line of a fault, and what is said of it.
+//! The line of a fault, and its diagnosis.
 use crate::kind::Kind;
 use crate::lines::line_at;
 use crate::sentence::Sentence;
 use std::alloc::Global;
 
-/// A line of a file that is read as one of a kind.
+/// A line of a file, which is read as a file of this kind.
 #[derive(Clone, Copy)]
 pub struct Spot<'a> {
     pub alloc: Global,
@@ -15,7 +15,7 @@ pub struct Spot<'a> {
 }
 
 impl<'a> Spot<'a> {
-    /// The line of this number. One that is not there is empty.
+    /// The line with this number. It is empty if the file has no such line.
     pub fn new(alloc: Global, kind: Kind, text: &'a [u8], number: u64) -> Spot<'a> {
         Spot {
             alloc,
@@ -27,18 +27,19 @@ impl<'a> Spot<'a> {
     }
 }
 
-/// What stands at the line of a fault. The table of faults says what to do where no remedy is known.
+/// The diagnosis of a fault: what was expected at its line, what was found there, and what to do. Without a remedy, the
+/// table of faults says what to do.
 #[derive(Clone, Copy)]
 pub struct Here<'a> {
     pub wanted: Sentence<'a>,
     pub read: Sentence<'a>,
     pub remedy: Option<Sentence<'a>>,
-    /// Another line that has to do with it.
+    /// Another line that is related to the fault.
     pub other: Option<u64>,
 }
 
 impl<'a> Here<'a> {
-    /// What was wanted and what was read.
+    /// A diagnosis without a remedy.
     pub fn new(wanted: Sentence<'a>, read: Sentence<'a>) -> Here<'a> {
         Here {
             wanted,
@@ -48,7 +49,7 @@ impl<'a> Here<'a> {
         }
     }
 
-    /// What was read, where what was wanted and what to do are the same for each such file.
+    /// A diagnosis whose expectation and remedy have no values.
     pub fn advised(wanted: &'static str, read: Sentence<'a>, remedy: &'static str) -> Here<'a> {
         Here {
             wanted: Sentence::of(wanted),
@@ -58,7 +59,7 @@ impl<'a> Here<'a> {
         }
     }
 
-    /// With what to do.
+    /// The diagnosis with this remedy.
     pub fn with(self, remedy: Sentence<'a>) -> Here<'a> {
         Here {
             remedy: Some(remedy),
@@ -66,7 +67,7 @@ impl<'a> Here<'a> {
         }
     }
 
-    /// With what to do, in words that are the same for each such file.
+    /// The diagnosis with this remedy, which has no values.
     pub fn advice(self, remedy: &'static str) -> Here<'a> {
         self.with(Sentence::of(remedy))
     }

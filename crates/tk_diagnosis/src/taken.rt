@@ -1,4 +1,4 @@
-//! What a line is taken for.
+//! How the lines of a file are read.
 use crate::kind::Kind;
 use crate::lines::{Found, count_tokens, keyword_at, lines_of, split_word, value_behind};
 use crate::place::{Place, entry_width, place_of};
@@ -7,7 +7,7 @@ use crate::spot::Spot;
 use tk_params::key_of;
 use tk_words::{Keyword, Role, spelled};
 
-/// What a line is taken for.
+/// A sentence on how a line is read.
 pub fn taken_for<'a>(spot: &Spot<'a>) -> Sentence<'a> {
     if spot.line.trim_ascii().is_empty() {
         return Sentence::of("a blank line");
@@ -25,7 +25,7 @@ pub fn taken_for<'a>(spot: &Spot<'a>) -> Sentence<'a> {
     }
 }
 
-/// Whether `EOF` begins an earlier line.
+/// Whether an earlier line begins with `EOF`.
 fn is_after_end(spot: &Spot<'_>) -> bool {
     for Found { line, bytes } in lines_of(spot.text) {
         if line >= spot.number {
@@ -38,7 +38,7 @@ fn is_after_end(spot: &Spot<'_>) -> bool {
     false
 }
 
-/// What a line of a problem or a tour is taken for.
+/// How a line of a problem or a tour is read.
 fn in_text<'a>(spot: &Spot<'a>) -> Sentence<'a> {
     let Some(word) = keyword_at(spot.line) else {
         return among_numbers(spot);
@@ -54,7 +54,7 @@ fn in_text<'a>(spot: &Spot<'a>) -> Sentence<'a> {
         .word(value_behind(spot.line, b':'))
 }
 
-/// What a line without a keyword is taken for.
+/// How a line without a keyword is read.
 fn among_numbers<'a>(spot: &Spot<'_>) -> Sentence<'a> {
     let Some(place) = place_of(spot.text, spot.number) else {
         return Sentence::of("a line outside all sections");
@@ -62,7 +62,7 @@ fn among_numbers<'a>(spot: &Spot<'_>) -> Sentence<'a> {
     numbers_of(spot.line, place)
 }
 
-/// Which numbers of a section stand on a line.
+/// The numbers of a section that are on a line.
 fn numbers_of<'a>(line: &[u8], place: Place) -> Sentence<'a> {
     let section = place.section;
     let width = entry_width(section);
@@ -80,7 +80,7 @@ fn numbers_of<'a>(line: &[u8], place: Place) -> Sentence<'a> {
         .keyword(section)
 }
 
-/// What a line of a solution is taken for.
+/// How a line of a solution is read.
 fn in_solution<'a>(line: &[u8]) -> Sentence<'a> {
     let word = split_word(line).0;
     Sentence::of(if spelled(word, b"ROUTE") {
@@ -92,7 +92,7 @@ fn in_solution<'a>(line: &[u8]) -> Sentence<'a> {
     })
 }
 
-/// What a line of a parameter file is taken for.
+/// How a line of a parameter file is read.
 fn in_parameters(line: &[u8]) -> Sentence<'_> {
     let word = split_word(line).0;
     if let Some(key) = key_of(word) {

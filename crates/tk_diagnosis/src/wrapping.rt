@@ -1,21 +1,22 @@
-//! Files that are no text that tourkit can read, whatever they hold.
+//! Files that are not texts that tourkit can read, whatever their contents.
 use crate::sentence::Sentence;
 use crate::spot::Here;
 
-/// Why a file is no text that can be read.
+/// Why a file is not a text that can be read.
 #[derive(Clone, Copy, PartialEq, Eq)]
 pub enum Wrapping {
     /// Compressed by gzip.
     Gzip,
-    /// UTF-16, by its mark.
+    /// UTF-16, recognized by its byte order mark.
     Utf16,
     /// A byte order mark before a text in UTF-8.
     Mark,
-    /// Bytes that are 0, which no text has.
+    /// NUL bytes, which no text contains.
     Binary,
 }
 
-/// Why a file is no text that can be read, if a line shows it: the front of the first one, or any by a byte 0.
+/// Why a file is not a text that can be read, if this line shows it: the first line by its first bytes, any line by a
+/// NUL byte.
 pub fn wrapping_of(text: &[u8], number: u64, line: &[u8]) -> Option<Wrapping> {
     if number == 1 {
         if text.starts_with(b"\x1f\x8b") {
@@ -34,7 +35,7 @@ pub fn wrapping_of(text: &[u8], number: u64, line: &[u8]) -> Option<Wrapping> {
     None
 }
 
-/// What stands where a file is no text that can be read.
+/// The diagnosis of a file that is not a text that can be read.
 pub fn wrapped<'a>(wrapping: Wrapping) -> Here<'a> {
     let (read, remedy) = match wrapping {
         Wrapping::Gzip => (

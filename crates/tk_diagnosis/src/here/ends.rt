@@ -1,4 +1,4 @@
-//! Sections that end too early, and what stands where nothing may.
+//! Sections that end too early, and data where none is allowed.
 use crate::lines::{
     count_tokens, first_token, header, header_line, keyword_at, token_after, tokens_of,
 };
@@ -8,17 +8,18 @@ use crate::spot::{Here, Spot};
 use tk_problem::{FORMATS, Format};
 use tk_words::{Keyword, keyword_in, letter, spelled};
 
-/// How many numbers a section has.
+/// The size of a section: its nodes, and the numbers that it must have.
 #[derive(Clone, Copy)]
 struct Size {
-    /// The number of nodes, and the line of DIMENSION that says it.
+    /// The number of nodes, and the line of DIMENSION, which states it.
     nodes: u64,
     line: u64,
     numbers: u64,
 }
 
 impl Size {
-    /// A sentence about the entry of a section after so many others, and what DIMENSION says.
+    /// A sentence about the entry that follows `entries` entries of a section. Its values are the entry, the section,
+    /// DIMENSION and its line.
     fn entry_after<'a>(&self, form: &'static str, section: Keyword, entries: u64) -> Sentence<'a> {
         Sentence::of(form)
             .number(entries.saturating_add(1))
@@ -27,7 +28,7 @@ impl Size {
     }
 }
 
-/// How many numbers a section has by DIMENSION and, of weights, by their format.
+/// The size of a section according to DIMENSION and, for weights, to their format; `None` if these do not determine it.
 fn size_of(spot: &Spot<'_>, section: Keyword) -> Option<Size> {
     let nodes = header_number(spot.text, Keyword::Dimension)?;
     let line = header_line(spot.text, Keyword::Dimension);
@@ -45,7 +46,8 @@ fn size_of(spot: &Spot<'_>, section: Keyword) -> Option<Size> {
     })
 }
 
-/// How many weights the format has.
+/// The number of weights in the file's EDGE_WEIGHT_FORMAT; `None` if there is no such header, or the number is too
+/// large.
 fn weights_of(spot: &Spot<'_>, nodes: u64) -> Option<u64> {
     let word = first_token(header(spot.text, Keyword::EdgeWeightFormat)?.bytes);
     let format = FORMATS
@@ -66,7 +68,8 @@ fn weights_of(spot: &Spot<'_>, nodes: u64) -> Option<u64> {
     }
 }
 
-/// The keyword that ends a section on a line, or `None` at the end of the file, and how many tokens stand before it.
+/// The keyword on this line that ends a section, and the number of tokens before it. Without a keyword, the section
+/// ends with the file: `None`, and the number of all tokens.
 fn end_on(line: &[u8]) -> (Option<&[u8]>, u64) {
     let mut count: u64 = 0;
     for token in tokens_of(line) {
@@ -78,7 +81,7 @@ fn end_on(line: &[u8]) -> (Option<&[u8]>, u64) {
     (None, count)
 }
 
-/// A sentence whose first value is what ends a section.
+/// A sentence whose first value is the end of a section: a keyword, or the end of the file.
 fn of_end<'a>(text: &'static str, end: Option<&'a [u8]>) -> Sentence<'a> {
     match end {
         Some(word) => Sentence::about(text, word),
@@ -86,7 +89,7 @@ fn of_end<'a>(text: &'static str, end: Option<&'a [u8]>) -> Sentence<'a> {
     }
 }
 
-/// A section ends before its last number.
+/// The diagnosis of a section that ends before its last number.
 pub fn truncated<'a>(spot: &Spot<'a>) -> Here<'a> {
     let (end, count) = end_on(spot.line);
     let Some(place) = place_of(spot.text, spot.number) else {
@@ -101,7 +104,7 @@ pub fn truncated<'a>(spot: &Spot<'a>) -> Here<'a> {
     }
 }
 
-/// A section with an entry for each node has too few.
+/// The diagnosis of a section with too few entries, which must have one for each node.
 fn few_entries<'a>(end: Option<&'a [u8]>, section: Keyword, have: u64, size: Size) -> Here<'a> {
     let width = entry_width(section);
     let entries = have / width;
@@ -124,7 +127,7 @@ fn few_entries<'a>(end: Option<&'a [u8]>, section: Keyword, have: u64, size: Siz
     }
 }
 
-/// A section ends in the middle of an entry, after so many whole ones.
+/// The diagnosis of a section that ends in the middle of an entry, after `entries` complete ones.
 fn in_entry<'a>(wanted: Sentence<'a>, end: Option<&'a [u8]>, entries: u64, width: u64) -> Here<'a> {
     let next = entries.saturating_add(1);
     let read = of_end("{} in the middle of entry {}", end).number(next);
@@ -132,7 +135,7 @@ fn in_entry<'a>(wanted: Sentence<'a>, end: Option<&'a [u8]>, entries: u64, width
     Here::new(wanted, read).with(remedy)
 }
 
-/// There are too few weights.
+/// The diagnosis of a section with too few weights.
 fn few_weights<'a>(end: Option<&'a [u8]>, have: u64, size: Size) -> Here<'a> {
     let Size {
         nodes,
@@ -152,7 +155,7 @@ fn few_weights<'a>(end: Option<&'a [u8]>, have: u64, size: Size) -> Here<'a> {
     }
 }
 
-/// A list ends with a keyword.
+/// The diagnosis of a list that ends too early, at a keyword or at the end of the file.
 fn short_list<'a>(spot: &Spot<'a>, end: Option<&'a [u8]>, section: Keyword) -> Here<'a> {
     let text = "Move line {} before {}, or write a line -1 before it if the list is complete.";
     Here {
@@ -163,7 +166,7 @@ fn short_list<'a>(spot: &Spot<'a>, end: Option<&'a [u8]>, section: Keyword) -> H
     }
 }
 
-/// Something stands where nothing may.
+/// The diagnosis of data where none is allowed.
 pub fn trailing<'a>(spot: &Spot<'a>) -> Here<'a> {
     let Some(place) = place_of(spot.text, spot.number) else {
         return no_word(spot);
@@ -174,7 +177,7 @@ pub fn trailing<'a>(spot: &Spot<'a>) -> Here<'a> {
     }
 }
 
-/// A line outside a section does not begin with a letter.
+/// The diagnosis of a line that belongs to no section and does not begin with a letter, or has data after its keyword.
 fn no_word<'a>(spot: &Spot<'a>) -> Here<'a> {
     if keyword_at(spot.line).is_some() {
         return Here::new(
@@ -197,13 +200,13 @@ fn no_word<'a>(spot: &Spot<'a>) -> Here<'a> {
     }
 }
 
-/// A line begins with no keyword: what was read, and what to do about the line.
+/// The diagnosis of a line without a keyword at its front, given what was found and the remedy.
 fn no_keyword<'a>(read: Sentence<'a>, remedy: &'static str, line: u64) -> Here<'a> {
     let wanted = Sentence::of("a keyword, which begins with a letter");
     Here::new(wanted, read).with(Sentence::of(remedy).number(line))
 }
 
-/// A section with an entry for each node has more.
+/// The diagnosis of data after the last number of a section whose size is known.
 fn too_many<'a>(spot: &Spot<'a>, place: Place, size: Size) -> Here<'a> {
     let section = place.section;
     let left = size.numbers.saturating_sub(place.numbers);
@@ -220,14 +223,14 @@ fn too_many<'a>(spot: &Spot<'a>, place: Place, size: Size) -> Here<'a> {
     more_entries(spot, section, size)
 }
 
-/// What may follow a section that has all of its numbers.
+/// The sentence on what can follow a section that has all of its numbers.
 fn after_section<'a>(section: Keyword, numbers: u64) -> Sentence<'a> {
     Sentence::of("a header, another section or EOF: {} has its {} numbers")
         .keyword(section)
         .number(numbers)
 }
 
-/// Something follows the last number of a section on its line.
+/// The diagnosis of data after the last number of a section, on the same line.
 fn behind_last(section: Keyword, numbers: u64, bytes: &[u8]) -> Here<'_> {
     let read = Sentence::about("{} after the last number of {}", bytes).keyword(section);
     Here::new(after_section(section, numbers), read).advice(
@@ -235,7 +238,7 @@ fn behind_last(section: Keyword, numbers: u64, bytes: &[u8]) -> Here<'_> {
     )
 }
 
-/// Whether a line begins like a number or with a letter.
+/// Whether a line begins like a number or with a letter, or is blank.
 fn begins_entry(line: &[u8]) -> bool {
     match first_token(line).first() {
         Some(byte) => byte.is_ascii_digit() || b"-+.".contains(byte) || letter(*byte),
@@ -243,7 +246,7 @@ fn begins_entry(line: &[u8]) -> bool {
     }
 }
 
-/// A weight follows the last one.
+/// The diagnosis of a weight after the last one.
 fn one_weight_more(bytes: &[u8], size: Size) -> Here<'_> {
     let text =
         "Correct DIMENSION (line {}) or EDGE_WEIGHT_FORMAT: both say how many weights there are.";
@@ -255,7 +258,7 @@ fn one_weight_more(bytes: &[u8], size: Size) -> Here<'_> {
     }
 }
 
-/// Lines follow the last one of a section.
+/// The diagnosis of further lines after the last entry of a section.
 fn more_entries<'a>(spot: &Spot<'a>, section: Keyword, size: Size) -> Here<'a> {
     let entries = numbers_in(spot.text, section) / entry_width(section);
     let text = "Write DIMENSION : {} on line {}, or remove what is too much, from line {} on.";
@@ -271,7 +274,7 @@ fn more_entries<'a>(spot: &Spot<'a>, section: Keyword, size: Size) -> Here<'a> {
     }
 }
 
-/// Something follows the `-1` that ends a list.
+/// The diagnosis of data after the `-1` that ends a list.
 fn after_list<'a>(spot: &Spot<'a>, section: Keyword) -> Here<'a> {
     let count = count_tokens(spot.line);
     let bytes = token_after(spot.line, count.saturating_sub(1)).unwrap_or(spot.line);

@@ -1,4 +1,4 @@
-//! Headers and sections that are missing.
+//! Missing headers and sections.
 use crate::kind::Kind;
 use crate::lines::{header, keyword_at};
 use crate::place::{entry_width, numbers_in};
@@ -6,7 +6,7 @@ use crate::sentence::Sentence;
 use crate::spot::{Here, Spot};
 use tk_words::{Keyword, Role};
 
-/// A header or a section is missing: before a section, or at the end of the file.
+/// The diagnosis of a header or a section that is missing before a section, or in the whole file.
 pub fn missing<'a>(spot: &Spot<'a>, word: Keyword) -> Here<'a> {
     match keyword_at(spot.line) {
         Some(section) if section.role() == Role::BeginsSection => before(spot, word, section),
@@ -14,7 +14,7 @@ pub fn missing<'a>(spot: &Spot<'a>, word: Keyword) -> Here<'a> {
     }
 }
 
-/// A header is missing before a section.
+/// The diagnosis of a header that is missing before a section.
 fn before<'a>(spot: &Spot<'a>, word: Keyword, section: Keyword) -> Here<'a> {
     let wanted = Sentence::of("{}, which stands before {}")
         .keyword(word)
@@ -37,7 +37,7 @@ fn before<'a>(spot: &Spot<'a>, word: Keyword, section: Keyword) -> Here<'a> {
     Here::new(wanted, read).with(added_before(spot, word, section))
 }
 
-/// What to add before a section.
+/// A sentence on what to add before a section.
 fn added_before<'a>(spot: &Spot<'_>, word: Keyword, section: Keyword) -> Sentence<'a> {
     let width = entry_width(section);
     let nodes = numbers_in(spot.text, section) / width;
@@ -51,7 +51,7 @@ fn added_before<'a>(spot: &Spot<'_>, word: Keyword, section: Keyword) -> Sentenc
         .number(spot.number)
 }
 
-/// A header or a section is missing in the whole file.
+/// The diagnosis of a header or a section that is missing in the whole file.
 fn at_end<'a>(spot: &Spot<'a>, word: Keyword) -> Here<'a> {
     let read = if spot.text.trim_ascii().is_empty() {
         Sentence::of("an empty file")
@@ -71,7 +71,7 @@ fn at_end<'a>(spot: &Spot<'a>, word: Keyword) -> Here<'a> {
     }
 }
 
-/// What can be added for a header or a section.
+/// A description of what to add for a header or a section.
 fn example_of(kind: Kind, word: Keyword) -> &'static str {
     match word {
         Keyword::Type if kind == Kind::Tour => "the line TYPE : TOUR",

@@ -1,4 +1,4 @@
-//! Numbers that are none, or that a header or an entry may not have.
+//! Tokens that are not numbers, and numbers that a header or an entry does not allow.
 use crate::kind::Kind;
 use crate::lines::{first_token, header_line, keyword_at, tokens_of, value_behind};
 use crate::place::{Place, entry_width, header_number, place_of, uneven_line};
@@ -9,14 +9,14 @@ use std::alloc::AllocError;
 use tk_problem::{CAPACITY_LIMIT, DISTANCE_LIMIT};
 use tk_words::{Keyword, Role, TextKind, decimal, integer};
 
-/// A number of a section that has a fault, with how many numbers of the section stand before it.
+/// A faulty number of a section, with its index in the section, counted from 0.
 #[derive(Clone, Copy)]
 struct Faulty<'a> {
     index: u64,
     bytes: &'a [u8],
 }
 
-/// A number of a section, before which so many others stand, where DIMENSION is `size`.
+/// A number of a section, with its index in the section, counted from 0, and DIMENSION as `size`.
 #[derive(Clone, Copy)]
 struct Entry {
     section: Keyword,
@@ -25,7 +25,7 @@ struct Entry {
 }
 
 impl Entry {
-    /// What is wanted in its place.
+    /// The sentence on the number that is expected at this index.
     fn wanted<'a>(&self) -> Sentence<'a> {
         let width = entry_width(self.section);
         let entry = (self.index / width).saturating_add(1);
@@ -37,7 +37,8 @@ impl Entry {
     }
 }
 
-/// What a field of a section's entries holds: with the entry's number, the section and, of a node, DIMENSION.
+/// The description of a field of a section's entries. Its values are the number of the entry, the section and, for a
+/// node, DIMENSION.
 fn text_of_field(section: Keyword, field: u64) -> &'static str {
     match (section, field) {
         (Keyword::NodeCoordSection | Keyword::DemandSection, 0) => {
@@ -60,7 +61,7 @@ fn text_of_field(section: Keyword, field: u64) -> &'static str {
     }
 }
 
-/// A number is none, outside its limits, or no node.
+/// The diagnosis of a bad number: it is malformed, outside its limits, not a node, or a repeated node.
 ///
 /// # Errors
 /// `AllocError` if memory runs out.
@@ -75,7 +76,7 @@ pub fn number<'a>(spot: &Spot<'a>, kind: TextKind) -> Result<Here<'a>, AllocErro
     }
 }
 
-/// The value of a header is no number, or outside its limits.
+/// The diagnosis of a header whose value is not an integer, or is outside its limits.
 fn in_header<'a>(spot: &Spot<'a>, word: Keyword, kind: TextKind) -> Here<'a> {
     let limits = match word {
         Keyword::Capacity => "1 to 2,000,000,000",
@@ -98,7 +99,7 @@ fn in_header<'a>(spot: &Spot<'a>, word: Keyword, kind: TextKind) -> Here<'a> {
     }
 }
 
-/// A section with a table has too many nodes.
+/// The diagnosis of a problem with too many nodes for this section.
 fn too_many_nodes<'a>(spot: &Spot<'a>, word: Keyword) -> Here<'a> {
     let nodes = header_number(spot.text, Keyword::Dimension).unwrap_or(0);
     let line = header_line(spot.text, Keyword::Dimension);
@@ -111,7 +112,7 @@ fn too_many_nodes<'a>(spot: &Spot<'a>, word: Keyword) -> Here<'a> {
     }
 }
 
-/// A number of a section has a fault.
+/// The diagnosis of a faulty number in a section.
 ///
 /// # Errors
 /// `AllocError` if memory runs out.
@@ -134,7 +135,7 @@ fn in_section<'a>(spot: &Spot<'a>, place: Place, kind: TextKind) -> Result<Here<
     }
 }
 
-/// A number of an entry has a fault of this kind.
+/// The diagnosis of a number with a fault of this kind.
 fn of_entry<'a>(spot: &Spot<'a>, entry: Entry, bytes: &'a [u8], kind: TextKind) -> Here<'a> {
     if !bytes.contains(&b',') {
         if let Some((line, count)) = uneven_line(spot.text, entry.section, spot.number) {
@@ -148,7 +149,7 @@ fn of_entry<'a>(spot: &Spot<'a>, entry: Entry, bytes: &'a [u8], kind: TextKind) 
     }
 }
 
-/// The first number on a line with a fault of this kind, other than that of a node that comes again.
+/// The first number on a line that has a fault of this kind. Repeated nodes are not found here.
 fn faulty_on(line: &[u8], place: Place, size: u64, kind: TextKind) -> Option<Faulty<'_>> {
     let mut index = place.numbers;
     for bytes in tokens_of(line) {
@@ -160,7 +161,7 @@ fn faulty_on(line: &[u8], place: Place, size: u64, kind: TextKind) -> Option<Fau
     None
 }
 
-/// What is wrong with a number at its place in a section.
+/// The fault of a number at this index of a section, if it has one.
 fn fault_of(section: Keyword, index: u64, bytes: &[u8], size: u64) -> Option<TextKind> {
     let is_node = index % entry_width(section) == 0;
     match section {
@@ -189,7 +190,7 @@ fn fault_of(section: Keyword, index: u64, bytes: &[u8], size: u64) -> Option<Tex
     }
 }
 
-/// What is wrong with an integer: that it is none, or the fault of one outside its limits.
+/// `BadNumber` if these bytes are not an integer, `outside` if it is not within the limits; otherwise `None`.
 fn fault_within(bytes: &[u8], low: u64, high: u64, outside: TextKind) -> Option<TextKind> {
     let Some(number) = integer(bytes) else {
         return Some(TextKind::BadNumber);
@@ -200,7 +201,8 @@ fn fault_within(bytes: &[u8], low: u64, high: u64, outside: TextKind) -> Option<
     }
 }
 
-/// A number stands in the place of another one, since an earlier line has too few numbers or too many.
+/// The diagnosis of a number that is read as another one, since this line or an earlier one has too few numbers or too
+/// many.
 fn uneven<'a>(entry: Entry, bytes: &'a [u8], line: u64, count: u64) -> Here<'a> {
     let text = "Look at line {} first: it has {} numbers, and an entry of {} has {}.";
     let remedy = Sentence::of(text)
@@ -215,7 +217,7 @@ fn uneven<'a>(entry: Entry, bytes: &'a [u8], line: u64, count: u64) -> Here<'a> 
     }
 }
 
-/// A node is none of the problem's.
+/// The diagnosis of a number that is not a node of the problem.
 fn other_node<'a>(spot: &Spot<'a>, entry: Entry, bytes: &'a [u8]) -> Here<'a> {
     match integer(bytes) {
         Some(number) if number < 1 => below_one(entry, bytes),
@@ -223,7 +225,7 @@ fn other_node<'a>(spot: &Spot<'a>, entry: Entry, bytes: &'a [u8]) -> Here<'a> {
     }
 }
 
-/// The number of a node is below 1.
+/// The diagnosis of a node number below 1.
 fn below_one<'a>(entry: Entry, bytes: &'a [u8]) -> Here<'a> {
     Here::new(
         entry.wanted(),
@@ -234,7 +236,7 @@ fn below_one<'a>(entry: Entry, bytes: &'a [u8]) -> Here<'a> {
     )
 }
 
-/// The number of a node is above DIMENSION, which a line says.
+/// The diagnosis of a node number above DIMENSION, which is on this line.
 fn above_size<'a>(entry: Entry, bytes: &'a [u8], line: u64) -> Here<'a> {
     let text = "{}, but DIMENSION is {} (line {})";
     Here {
@@ -245,7 +247,7 @@ fn above_size<'a>(entry: Entry, bytes: &'a [u8], line: u64) -> Here<'a> {
     }
 }
 
-/// A number is outside its limits.
+/// The diagnosis of a number outside its limits.
 fn outside(entry: Entry, bytes: &[u8]) -> Here<'_> {
     let here = Here::new(entry.wanted(), Sentence::of_word(bytes));
     match entry.section {
@@ -259,7 +261,7 @@ fn outside(entry: Entry, bytes: &[u8]) -> Here<'_> {
     }
 }
 
-/// Something is no number.
+/// The diagnosis of a token that is not a number.
 fn no_number(entry: Entry, bytes: &[u8]) -> Here<'_> {
     let has_comma = bytes.contains(&b',');
     if !has_comma && entry.section == Keyword::NodeCoordSection && entry.index % 3 != 0 {
@@ -287,7 +289,7 @@ fn no_number(entry: Entry, bytes: &[u8]) -> Here<'_> {
     Here::new(entry.wanted(), Sentence::about(read, bytes)).advice(remedy)
 }
 
-/// A node of a section comes a second time.
+/// The diagnosis of a node that is repeated in a section.
 ///
 /// # Errors
 /// `AllocError` if memory runs out.
@@ -301,7 +303,7 @@ fn named_before<'a>(spot: &Spot<'a>, section: Keyword, size: u64) -> Result<Here
     }
 }
 
-/// A node comes a second time, on this line.
+/// The diagnosis of a node that is repeated on this line.
 fn repeated_node<'a>(section: Keyword, repeat: Repeat, line: u64) -> Here<'a> {
     let Repeat { node, first } = repeat;
     let read = Sentence::of("node {} a second time; line {} has it first").numbers([node, first]);

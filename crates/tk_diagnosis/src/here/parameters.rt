@@ -7,7 +7,7 @@ use crate::spot::{Here, Spot};
 use std::alloc::AllocError;
 use tk_params::{Key, ParamKind, key_of};
 
-/// The keys for which another word may be meant.
+/// The keys that can be suggested for an unknown word.
 static NAMES: [&str; 11] = [
     "PROBLEM_FILE",
     "TOUR_FILE",
@@ -22,15 +22,15 @@ static NAMES: [&str; 11] = [
     "OR_SEGMENT",
 ];
 
-/// What to do about a word that is none, where another one may be meant.
+/// The remedy for an unknown word that is similar to a key.
 const MEANT: &str = "Write {}, if that is meant; else put # before the line, or remove it.";
 
-/// What may begin a line.
+/// The text on what is expected at the front of a line.
 const KEYS: &str =
     "PROBLEM_FILE, TOUR_FILE, SOLUTION_FILE, INITIAL_TOUR_FILE, RUNS, MAX_TRIALS, SEED, MAX_CANDIDATES, \
 CONSTRUCTION, FINAL_SWEEP, OR_SEGMENT, # or EOF";
 
-/// What stands at the line of a fault of a parameter file.
+/// The diagnosis of a fault of a parameter file.
 ///
 /// # Errors
 /// `AllocError` if memory runs out, as for all functions here.
@@ -48,7 +48,7 @@ pub fn parameter<'a>(spot: &Spot<'a>, kind: ParamKind) -> Result<Here<'a>, Alloc
     }
 }
 
-/// There is no problem.
+/// The diagnosis of a parameter file without PROBLEM_FILE.
 fn no_problem<'a>() -> Here<'a> {
     Here::new(
         Sentence::of("PROBLEM_FILE, which the file needs"),
@@ -56,7 +56,7 @@ fn no_problem<'a>() -> Here<'a> {
     )
 }
 
-/// A line, a key or the file is too long.
+/// The diagnosis of a line, a key or a file that is too long.
 fn too_long<'a>(spot: &Spot<'a>) -> Here<'a> {
     Here::new(
         Sentence::of("a line of at most 4,096 bytes, with a key of at most 64"),
@@ -64,7 +64,7 @@ fn too_long<'a>(spot: &Spot<'a>) -> Here<'a> {
     )
 }
 
-/// A line begins with no key.
+/// The diagnosis of a line that does not begin with a known key.
 fn unknown_key<'a>(spot: &Spot<'a>) -> Result<Here<'a>, AllocError> {
     let key = split_word(spot.line).0;
     if key.is_empty() {
@@ -78,12 +78,12 @@ fn unknown_key<'a>(spot: &Spot<'a>) -> Result<Here<'a>, AllocError> {
     or_nearest(here, spot.alloc, key, NAMES.as_slice(), MEANT)
 }
 
-/// A word that is no key, and what is said of it.
+/// The diagnosis of a word that is not a key; `read` is the sentence about it.
 fn no_key<'a>(bytes: &'a [u8], read: &'static str) -> Here<'a> {
     Here::new(Sentence::of(KEYS), Sentence::about(read, bytes))
 }
 
-/// A key of LKH.
+/// The diagnosis of a key of LKH that tourkit does not have.
 fn other_key(key: &[u8]) -> Here<'_> {
     Here::advised(
         KEYS,
@@ -92,7 +92,7 @@ fn other_key(key: &[u8]) -> Here<'_> {
     )
 }
 
-/// A key comes a second time.
+/// The diagnosis of a repeated key.
 fn repeated_key<'a>(spot: &Spot<'a>) -> Here<'a> {
     let word = split_word(spot.line).0;
     let first = first_with(spot.text, word);
@@ -104,7 +104,7 @@ fn repeated_key<'a>(spot: &Spot<'a>) -> Here<'a> {
     }
 }
 
-/// The first line with a key.
+/// The number of the first line with this key, or of the last line if there is none.
 fn first_with(text: &[u8], word: &[u8]) -> u64 {
     let key = key_of(word);
     let mut count = 0;
@@ -117,7 +117,7 @@ fn first_with(text: &[u8], word: &[u8]) -> u64 {
     count
 }
 
-/// What a key may say.
+/// A description of the values that a key allows.
 fn values_of(key: Key) -> &'static str {
     match key {
         Key::ProblemFile | Key::TourFile | Key::SolutionFile | Key::InitialTourFile =>
@@ -133,7 +133,7 @@ fn values_of(key: Key) -> &'static str {
     }
 }
 
-/// A key has a value that it may not have.
+/// The diagnosis of a key whose value is not allowed.
 fn bad_value<'a>(spot: &Spot<'a>) -> Here<'a> {
     match key_of(split_word(spot.line).0) {
         Some(key) => value_of_key(key, value_behind(spot.line, b'=')),
@@ -144,7 +144,7 @@ fn bad_value<'a>(spot: &Spot<'a>) -> Here<'a> {
     }
 }
 
-/// A value that a key may not have.
+/// The diagnosis of a value that this key does not allow.
 fn value_of_key(key: Key, bytes: &[u8]) -> Here<'_> {
     let values = values_of(key);
     Here {
@@ -155,7 +155,7 @@ fn value_of_key(key: Key, bytes: &[u8]) -> Here<'_> {
     }
 }
 
-/// What to write in place of a value, where only these may stand.
+/// The remedy for a value, given a description of the values that are allowed.
 fn other_value<'a>(bytes: &[u8], values: &'static str) -> Sentence<'a> {
     if bytes.is_empty() {
         Sentence::of("Write the value after the key, or put # before the line.")

@@ -5,7 +5,7 @@ use crate::sentence::Sentence;
 use crate::spot::{Here, Spot};
 use tk_words::{Keyword, integer};
 
-/// The depot section does not name one node, or the depot has a demand.
+/// The diagnosis of a depot section that does not name exactly one node, or of a depot with a demand.
 pub fn bad_depot<'a>(spot: &Spot<'a>) -> Here<'a> {
     match place_of(spot.text, spot.number) {
         Some(place) if place.section == Keyword::DepotSection => on_depot(spot, place.numbers),
@@ -13,7 +13,7 @@ pub fn bad_depot<'a>(spot: &Spot<'a>) -> Here<'a> {
     }
 }
 
-/// The same on a line of the depot section, before which so many numbers of the section stand.
+/// Like `bad_depot`, for a line of the depot section; `begun` numbers of the section come before it.
 fn on_depot<'a>(spot: &Spot<'a>, begun: u64) -> Here<'a> {
     let size = header_number(spot.text, Keyword::Dimension).unwrap_or(0);
     match bad_on(spot.line, begun, size) {
@@ -23,7 +23,7 @@ fn on_depot<'a>(spot: &Spot<'a>, begun: u64) -> Here<'a> {
     }
 }
 
-/// The number on a line that is no depot, or a second one, with how many stand before it.
+/// The first number on a line that is not a valid depot, or is a second one, with its index in the section.
 fn bad_on(line: &[u8], begun: u64, size: u64) -> Option<(u64, &[u8])> {
     let mut index = begun;
     for bytes in tokens_of(line) {
@@ -38,7 +38,7 @@ fn bad_on(line: &[u8], begun: u64, size: u64) -> Option<(u64, &[u8])> {
     None
 }
 
-/// Whether a number of the depot section is no node where the depot stands, or not -1 after it.
+/// Whether a number of the depot section is wrong: the first one must be a node, and those after it -1.
 fn is_bad(index: u64, number: i64, size: u64) -> bool {
     if index > 0 {
         return number != -1;
@@ -49,7 +49,7 @@ fn is_bad(index: u64, number: i64, size: u64) -> bool {
     }
 }
 
-/// A number comes after the depot.
+/// The diagnosis of a number after the depot.
 fn second_depot(bytes: &[u8]) -> Here<'_> {
     Here::advised(
         "-1, since DEPOT_SECTION has its node",
@@ -58,7 +58,7 @@ fn second_depot(bytes: &[u8]) -> Here<'_> {
     )
 }
 
-/// The number of the depot is no node.
+/// The diagnosis of a depot that is not a node.
 fn no_depot(bytes: &[u8], size: u64) -> Here<'_> {
     let wanted = Sentence::of("the number of the depot, from 1 to {}").number(size);
     Here::new(wanted, Sentence::of_word(bytes)).advice(
@@ -66,7 +66,7 @@ fn no_depot(bytes: &[u8], size: u64) -> Here<'_> {
     )
 }
 
-/// The depot has a demand.
+/// The diagnosis of a depot with a demand.
 fn depot_with_demand<'a>(spot: &Spot<'a>) -> Here<'a> {
     let Some(depot) = number_at(spot.text, Keyword::DepotSection, 0) else {
         return Here::new(Sentence::of("a depot"), Sentence::of_word(spot.line));
@@ -88,13 +88,13 @@ fn depot_with_demand<'a>(spot: &Spot<'a>) -> Here<'a> {
     }
 }
 
-/// The demand of a node.
+/// The demand of a node, with its line.
 fn demand_of<'a>(spot: &Spot<'a>, node: i64) -> Option<Found<'a>> {
     let index = node_index(spot.text, Keyword::DemandSection, node)?;
     number_at(spot.text, Keyword::DemandSection, index.saturating_add(1))
 }
 
-/// A demand is larger than the capacity.
+/// The diagnosis of a demand that is larger than the capacity.
 pub fn over_capacity<'a>(spot: &Spot<'a>, node: u32) -> Here<'a> {
     let (line, capacity) = match header(spot.text, Keyword::Capacity) {
         Some(found) => (found.line, first_token(found.bytes)),
@@ -118,7 +118,7 @@ pub fn over_capacity<'a>(spot: &Spot<'a>, node: u32) -> Here<'a> {
     }
 }
 
-/// Two entries of a full matrix differ.
+/// The diagnosis of a full matrix in which this entry differs from its mirror entry.
 pub fn not_symmetric<'a>(spot: &Spot<'a>, row: u32, column: u32) -> Here<'a> {
     let size = header_number(spot.text, Keyword::Dimension).unwrap_or(0);
     let (Some(first), Some(second)) = (
@@ -140,13 +140,14 @@ pub fn not_symmetric<'a>(spot: &Spot<'a>, row: u32, column: u32) -> Here<'a> {
     }
 }
 
-/// The weight that is wanted in the other direction of one in a row and a column.
+/// The sentence on the weight that is expected in row `column` and column `row`, given that in row `row` and column
+/// `column`.
 fn mirrored<'a>(weight: Found<'a>, row: u64, column: u64) -> Sentence<'a> {
     let text = "{} in row {}, column {}, as in row {}, column {} (line {})";
     Sentence::about(text, weight.bytes).numbers([column, row, row, column, weight.line])
 }
 
-/// An entry of a full matrix. Rows and columns count from 1.
+/// An entry of a full matrix. Rows and columns are counted from 1.
 fn entry_at<'a>(spot: &Spot<'a>, size: u64, row: u32, column: u32) -> Option<Found<'a>> {
     let before = u64::from(row).checked_sub(1)?.checked_mul(size)?;
     let index = before.checked_add(u64::from(column).checked_sub(1)?)?;

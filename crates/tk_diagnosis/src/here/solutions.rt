@@ -6,13 +6,13 @@ use crate::sentence::Sentence;
 use crate::spot::{Here, Spot};
 use tk_words::{TextKind, integer, spelled};
 
-/// How a route is written.
+/// The syntax of a route.
 const ROUTE: &str = "a line Route #K: CUSTOMERS, as in Route #1: 3 1 2";
 
-/// How the cost is written.
+/// The syntax of the cost.
 const COST: &str = "a line Cost N, with an integer, as in Cost 7567";
 
-/// What stands at the line of a fault of a solution file.
+/// The diagnosis of a fault of a solution file.
 pub fn solution<'a>(spot: &Spot<'a>, kind: TextKind) -> Here<'a> {
     if let TextKind::Missing(_) = kind {
         return no_cost();
@@ -27,7 +27,7 @@ pub fn solution<'a>(spot: &Spot<'a>, kind: TextKind) -> Here<'a> {
     }
 }
 
-/// There is no cost.
+/// The diagnosis of a solution file without a cost.
 fn no_cost<'a>() -> Here<'a> {
     Here::advised(
         COST,
@@ -36,7 +36,7 @@ fn no_cost<'a>() -> Here<'a> {
     )
 }
 
-/// The cost is no number, or outside its limits.
+/// The diagnosis of a cost that is malformed or outside its limits.
 fn bad_cost(value: &[u8]) -> Here<'_> {
     let read = if value.is_empty() {
         Sentence::of("Cost and no number")
@@ -50,7 +50,7 @@ fn bad_cost(value: &[u8]) -> Here<'_> {
     )
 }
 
-/// A line before the cost is neither a route nor the cost.
+/// The diagnosis of a line before the cost that is neither a route nor the cost.
 fn other_line<'a>(spot: &Spot<'a>) -> Here<'a> {
     let bytes = first_token(spot.line);
     let remedy = if integer(bytes).is_some() {
@@ -65,7 +65,7 @@ fn other_line<'a>(spot: &Spot<'a>) -> Here<'a> {
     )
 }
 
-/// Something follows the cost.
+/// The diagnosis of data after the cost: on its line, or a route or another cost on a later line.
 fn after_cost<'a>(spot: &Spot<'a>, word: &'a [u8]) -> Here<'a> {
     let line = first_cost(spot.text).unwrap_or(1);
     if line == spot.number {
@@ -82,7 +82,7 @@ fn after_cost<'a>(spot: &Spot<'a>, word: &'a [u8]) -> Here<'a> {
     }
 }
 
-/// Something follows the cost on its line.
+/// The diagnosis of data after the cost, on its line.
 fn behind_cost(line: &[u8]) -> Here<'_> {
     let rest = token_after(value_behind(line, b':'), 1).unwrap_or(b"".as_slice());
     Here::advised(
@@ -92,7 +92,7 @@ fn behind_cost(line: &[u8]) -> Here<'_> {
     )
 }
 
-/// The line of the cost.
+/// The number of the first line that begins with `Cost`, if there is one.
 fn first_cost(text: &[u8]) -> Option<u64> {
     for Found { line, bytes } in lines_of(text) {
         if spelled(split_word(bytes).0, b"COST") {
@@ -102,7 +102,7 @@ fn first_cost(text: &[u8]) -> Option<u64> {
     None
 }
 
-/// A route has another form, or a customer is no number or outside its limits.
+/// The diagnosis of a malformed route, of a bad customer, or of too many routes or customers.
 fn in_route<'a>(spot: &Spot<'a>, kind: TextKind) -> Here<'a> {
     let (_, rest) = spot.line.split_at(length_before(spot.line, b':'));
     if rest.is_empty() {
@@ -120,7 +120,7 @@ fn in_route<'a>(spot: &Spot<'a>, kind: TextKind) -> Here<'a> {
     other_route("a route with something else before its colon")
 }
 
-/// A customer is no number or outside its limits.
+/// The diagnosis of a bad customer.
 fn other_customer(bytes: &[u8]) -> Here<'_> {
     Here::advised(
         "a customer, an integer from 0 to 4,294,967,295",
@@ -129,7 +129,7 @@ fn other_customer(bytes: &[u8]) -> Here<'_> {
     )
 }
 
-/// A route has another form.
+/// The diagnosis of a malformed route.
 fn other_route<'a>(read: &'static str) -> Here<'a> {
     Here::advised(
         ROUTE,
@@ -148,7 +148,7 @@ fn bad_customer(customers: &[u8], kind: TextKind) -> Option<&[u8]> {
     None
 }
 
-/// What is wrong with a customer.
+/// The fault of a customer, if it has one.
 fn fault_of(token: &[u8]) -> Option<TextKind> {
     match integer(token) {
         _ if token.len() > 64 => Some(TextKind::TooLong),

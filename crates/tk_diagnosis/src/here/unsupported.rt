@@ -1,11 +1,11 @@
-//! What TSPLIB has and tourkit does not read.
+//! Keywords and values of TSPLIB that tourkit does not support.
 use crate::kind::Kind;
 use crate::lines::{first_token, header, header_line, keyword_at, value_behind};
 use crate::sentence::Sentence;
 use crate::spot::{Here, Spot};
 use tk_words::{Keyword, spelled};
 
-/// What can be written in place of other distances.
+/// The remedy for distances that are not supported.
 const EXPLICIT: &str =
     "If the distances are symmetric, compute them, and write them as explicit weights: \
 EDGE_WEIGHT_TYPE : EXPLICIT, EDGE_WEIGHT_FORMAT : FULL_MATRIX and EDGE_WEIGHT_SECTION.";
@@ -15,7 +15,7 @@ const FORMATS: &str =
     "FULL_MATRIX, UPPER_ROW, LOWER_ROW, UPPER_DIAG_ROW, LOWER_DIAG_ROW, UPPER_COL, LOWER_COL, \
 UPPER_DIAG_COL, LOWER_DIAG_COL or FUNCTION";
 
-/// A keyword or a value is not supported.
+/// The diagnosis of a keyword or a value that is not supported.
 pub fn unsupported<'a>(spot: &Spot<'a>) -> Here<'a> {
     match keyword_at(spot.line) {
         None => Here::new(
@@ -27,7 +27,7 @@ pub fn unsupported<'a>(spot: &Spot<'a>) -> Here<'a> {
     }
 }
 
-/// A problem has a keyword or a value that is not supported.
+/// The diagnosis of a keyword or a value of a problem that is not supported.
 fn in_problem<'a>(spot: &Spot<'a>, word: Keyword) -> Here<'a> {
     match word {
         Keyword::Type => other_type(spot),
@@ -52,7 +52,7 @@ fn in_problem<'a>(spot: &Spot<'a>, word: Keyword) -> Here<'a> {
     }
 }
 
-/// A header or a section is not supported at all.
+/// The diagnosis of a header or a section that is not supported at all.
 fn not_supported<'a>(word: Keyword) -> Here<'a> {
     match word {
         Keyword::Distance | Keyword::ServiceTime | Keyword::Vehicles => other_word(
@@ -65,7 +65,7 @@ fn not_supported<'a>(word: Keyword) -> Here<'a> {
     }
 }
 
-/// A problem is of another type.
+/// The diagnosis of a problem whose type is not supported.
 fn other_type<'a>(spot: &Spot<'a>) -> Here<'a> {
     let value = first_token(value_behind(spot.line, b':'));
     if spelled(value, b"TOUR") {
@@ -82,7 +82,7 @@ fn other_type<'a>(spot: &Spot<'a>) -> Here<'a> {
     )
 }
 
-/// A header has a value that is not supported.
+/// The diagnosis of a header with a value that is not supported.
 fn valued<'a>(spot: &Spot<'a>, wanted: &'static str, remedy: &'static str) -> Here<'a> {
     let value = first_token(value_behind(spot.line, b':'));
     Here::advised(
@@ -92,7 +92,7 @@ fn valued<'a>(spot: &Spot<'a>, wanted: &'static str, remedy: &'static str) -> He
     )
 }
 
-/// A word stands where other ones are read.
+/// The diagnosis of a keyword that is not allowed here.
 fn other_word<'a>(
     wanted: &'static str,
     word: Keyword,
@@ -102,7 +102,7 @@ fn other_word<'a>(
     Here::advised(wanted, Sentence::of(read).keyword(word), remedy)
 }
 
-/// A section of a CVRP stands in a TSP.
+/// The diagnosis of a section of a CVRP in a TSP.
 fn for_cvrp<'a>(spot: &Spot<'a>, word: Keyword) -> Here<'a> {
     let line = header_line(spot.text, Keyword::Type);
     let text = "Write TYPE : CVRP on line {}, or remove the section with its lines.";
@@ -116,7 +116,7 @@ fn for_cvrp<'a>(spot: &Spot<'a>, word: Keyword) -> Here<'a> {
     }
 }
 
-/// Weights stand in a problem that has none.
+/// The diagnosis of a section of weights that the headers do not announce.
 fn without_weights<'a>(spot: &Spot<'a>) -> Here<'a> {
     Here::advised(
         "no weights, which the headers do not announce",
@@ -125,7 +125,7 @@ fn without_weights<'a>(spot: &Spot<'a>) -> Here<'a> {
     )
 }
 
-/// Why a problem with a section of weights has none.
+/// A sentence on why the headers do not announce a section of weights.
 fn weights_without_type(text: &[u8]) -> Sentence<'_> {
     if let Some(found) = header(text, Keyword::EdgeWeightType) {
         let value = first_token(found.bytes);
@@ -140,7 +140,7 @@ fn weights_without_type(text: &[u8]) -> Sentence<'_> {
     Sentence::of("EDGE_WEIGHT_SECTION, but EDGE_WEIGHT_FORMAT is FUNCTION")
 }
 
-/// A section is not supported at all.
+/// The diagnosis of a section that is not supported at all.
 fn other_section<'a>(word: Keyword) -> Here<'a> {
     let remedy = if word == Keyword::TourSection {
         "Remove the section with its lines. A tour has a file of its own, with TYPE : TOUR."
@@ -155,7 +155,7 @@ fn other_section<'a>(word: Keyword) -> Here<'a> {
     )
 }
 
-/// A tour file has another type, or a keyword of problems.
+/// The diagnosis of a tour file with another type, or with a keyword of problems.
 fn in_tour<'a>(spot: &Spot<'a>, word: Keyword) -> Here<'a> {
     if word == Keyword::Type {
         return valued(

@@ -1,4 +1,4 @@
-//! Words that are none, come twice or are too long.
+//! Words that are unknown, repeated or too long.
 use crate::kind::Kind;
 use crate::lines::{header_line, keyword_at, split_word, tokens_of, value_behind};
 use crate::nearest::nearest;
@@ -8,7 +8,7 @@ use std::alloc::{AllocError, Global};
 use tk_problem::TEXT_LIMIT;
 use tk_words::{Keyword, Role};
 
-/// The keywords for which another word may be meant.
+/// The keywords that can be suggested for an unknown word.
 static KEYWORDS: [&str; 15] = [
     "NAME",
     "TYPE",
@@ -27,10 +27,10 @@ static KEYWORDS: [&str; 15] = [
     "TOUR_SECTION",
 ];
 
-/// What to do about a word that is none, where another one may be meant.
+/// The remedy for an unknown word that is similar to a keyword.
 const MEANT: &str = "Write {}, if that is meant; else put COMMENT : before the line, or remove it.";
 
-/// The words that begin a line.
+/// The list of the words that can begin a line, as a text.
 fn keywords(kind: Kind) -> &'static str {
     match kind {
         Kind::Tour => "NAME, COMMENT, TYPE, DIMENSION, TOUR_SECTION or EOF",
@@ -40,7 +40,7 @@ fn keywords(kind: Kind) -> &'static str {
     }
 }
 
-/// A line begins with a word that is no keyword.
+/// The diagnosis of a line that begins with an unknown word.
 ///
 /// # Errors
 /// `AllocError` if memory runs out.
@@ -53,7 +53,7 @@ pub fn unknown<'a>(spot: &Spot<'a>) -> Result<Here<'a>, AllocError> {
     or_nearest(here, spot.alloc, bytes, KEYWORDS.as_slice(), MEANT)
 }
 
-/// With what to do if one of the names is meant by a word: a remedy whose text is that name.
+/// The diagnosis with a remedy that suggests the nearest of these names, if one is near enough to the word.
 ///
 /// # Errors
 /// `AllocError` if memory runs out.
@@ -70,7 +70,7 @@ pub fn or_nearest<'a>(
     }
 }
 
-/// A header or a section comes a second time.
+/// The diagnosis of a repeated header or section.
 pub fn repeated<'a>(spot: &Spot<'a>) -> Here<'a> {
     let word = keyword_at(spot.line).unwrap_or(Keyword::Name);
     let first = header_line(spot.text, word);
@@ -85,7 +85,7 @@ pub fn repeated<'a>(spot: &Spot<'a>) -> Here<'a> {
     }
 }
 
-/// What to do about a header or a section that two lines have.
+/// The remedy for a header or a section that occurs on two lines.
 fn one_of_two<'a>(word: Keyword, first: u64, second: u64) -> Sentence<'a> {
     if word.role() == Role::BeginsSection {
         Sentence::of("Keep one of the sections that begin on lines {} and {}.").numbers([
@@ -96,12 +96,12 @@ fn one_of_two<'a>(word: Keyword, first: u64, second: u64) -> Sentence<'a> {
     }
 }
 
-/// What to do about a line that says what another one says.
+/// The remedy for a line that repeats another one.
 pub fn remove_either<'a>(line: u64, other: u64) -> Sentence<'a> {
     Sentence::of("Remove line {} or line {}, whichever is wrong.").numbers([line, other])
 }
 
-/// The file, a line, a word or a number is too long.
+/// The diagnosis of a file, a line, a word or a number that is too long.
 pub fn too_long<'a>(spot: &Spot<'a>) -> Here<'a> {
     if spot.text.len() as u64 > TEXT_LIMIT {
         return Here::new(
@@ -131,7 +131,7 @@ pub fn too_long<'a>(spot: &Spot<'a>) -> Here<'a> {
     }
 }
 
-/// Something is too long.
+/// The diagnosis of a part of a text that is too long, with its length.
 fn long<'a>(wanted: &'static str, read: &'static str, length: usize) -> Here<'a> {
     Here::new(
         Sentence::of(wanted),
@@ -139,7 +139,7 @@ fn long<'a>(wanted: &'static str, read: &'static str, length: usize) -> Here<'a>
     )
 }
 
-/// The length of the longest token.
+/// The length of the longest token on a line.
 fn longest(line: &[u8]) -> usize {
     let mut longest = 0;
     for token in tokens_of(line) {
