@@ -1,5 +1,5 @@
--- The fault that a file of a kind has, as the library's reader of that kind tells it.
---     fault_of kind text      None where the reader accepts the text
+-- The fault of a file of a kind, as the library's reader of that kind reports it.
+--     fault_of kind text      None if the reader accepts the text
 use Rattle.std.specs.Prelude.{ℕ, List, Option, Some, None, Result, Ok, Err}
 use Rattle.tk_words.specs.declared.fault.TextFault.{TextFault}
 use Rattle.tk_words.specs.Texts.{answer_of}
@@ -27,7 +27,7 @@ abbrev pub param_fault : {V : Type 0} → Result V ParamFault → Option FileFau
 param_fault (Ok v) = None
 param_fault (Err f) = Some (faults.Parameters f)
 
--- the fault that an answer tells
+-- the fault that an answer reports
 abbrev pub fault_in : Answer → Option FileFault
 fault_in (answers.Sound sound) = None
 fault_in (answers.Faulty fault) = Some fault

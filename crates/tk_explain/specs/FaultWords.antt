@@ -1,4 +1,4 @@
--- Which words mean a fault.
+-- The words that mean a fault.
 use Rattle.std.specs.Prelude.{ℕ, Bool, ◌||◌, ◌==◌, List, map}
 use Rattle.std.specs.List.{list_any}
 use Rattle.std.specs.Char.{to_ascii_uppercase}
@@ -6,11 +6,11 @@ use Rattle.tk_words.specs.Lex.{behind}
 use Rattle.tk_words.specs.Words.{same_bytes}
 use Rattle.tk_explain.specs.Faults.{faults}
 
--- the same word, without regard to case
+-- equal words, whatever their case
 abbrev pub same_fault_word : List ℕ → List ℕ → Bool
 same_fault_word bs text = same_bytes (map to_ascii_uppercase bs) (map to_ascii_uppercase text)
 
--- a number without the zeros at its front
+-- a number without its leading zeros
 abbrev pub without_zeros : List ℕ → List ℕ
 without_zeros bs = behind (λ b. b == 48) bs
 

@@ -1,4 +1,4 @@
-//! What the library's reader of a kind answers to a text.
+//! The answer of the library's readers to a text, by the kind of file that it is read as.
 ghost use Rattle.std.specs.Prelude.{◌≡◌, IfOk};
 ghost use Rattle.tk_words.specs.Texts.{answer_of};
 ghost use Rattle.tk_problem_text.specs.Problem.{problem_texts};
@@ -16,7 +16,7 @@ use tk_params::{ParamKind, read_params};
 use tk_problem_text::read_problem;
 use tk_words::TextKind;
 
-/// What a reader answers: what the file is, or its fault.
+/// The answer of a reader: the contents of a file, or its fault.
 #[derive(Drop)]
 pub enum Answer {
     Sound(Sound),
@@ -35,7 +35,7 @@ impl Answer {
     }
 }
 
-/// The answer of the reader of a kind.
+/// The answer of the reader of this kind of file.
 ///
 /// # Errors
 /// `AllocError` if memory runs out, as for all functions here.

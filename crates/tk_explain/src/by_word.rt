@@ -8,7 +8,7 @@ use crate::fault_table::{FaultText, faults};
 use crate::page::{CAUSES, MEANING, Page, REMEDY};
 use std::alloc::{AllocError, Global};
 
-/// The explanations of all faults with a number or a name, without regard to case: `None` if there is none.
+/// The explanations of all faults with this number or name, whatever its case; `None` if there is no such fault.
 ///
 /// # Errors
 /// `AllocError` if memory runs out.
@@ -31,7 +31,7 @@ fn is_fault(what: &str) -> bool
     faults().iter().any(|fault| is_named(fault, what))
 }
 
-/// Adds all faults with a number or a name, with a blank line between them.
+/// Adds the explanations of all faults with this number or name, separated by blank lines.
 fn add_all(page: &mut Page, what: &str) -> Result<(), AllocError> {
     let mut is_first = true;
     for fault in faults().iter() {
@@ -46,14 +46,14 @@ fn add_all(page: &mut Page, what: &str) -> Result<(), AllocError> {
     Ok(())
 }
 
-/// Whether a word is a number, such as that of a fault.
+/// Whether a word is a number: one or more digits, and nothing else.
 pub fn is_number(what: &str) -> bool
     ensures { IsTrue result ↔ (0 < length what.now) × All IsAsciiDigit what.now }
 {
     !what.is_empty() && what.as_bytes().iter().all(|byte| byte.is_ascii_digit())
 }
 
-/// Whether a word is the number or the name of a fault.
+/// Whether a word is the number or the name of this fault.
 fn is_named(fault: &FaultText, what: &str) -> bool
     ensures { result ≡ is_named (fault.now.number.now, fault.now.name.now) what.now }
 {
@@ -62,7 +62,7 @@ fn is_named(fault: &FaultText, what: &str) -> bool
         || same_word(what, fault.name.as_bytes())
 }
 
-/// A number without the zeros at its front.
+/// A number without its leading zeros.
 fn without_zeros(what: &[u8]) -> &[u8]
     ensures { result.now ≡ without_zeros what.now }
 {
@@ -74,7 +74,7 @@ fn without_zeros(what: &[u8]) -> &[u8]
     &[]
 }
 
-/// Whether two words are the same, without regard to case.
+/// Whether two words are equal, whatever their case.
 fn same_word(bytes: &[u8], text: &[u8]) -> bool
     ensures { result ≡ same_fault_word bytes.now text.now }
 {
@@ -89,7 +89,7 @@ fn same_word(bytes: &[u8], text: &[u8]) -> bool
     true
 }
 
-/// Adds a fault.
+/// Adds the explanation of a fault.
 fn add(page: &mut Page, fault: &FaultText) -> Result<(), AllocError> {
     page.line(fault)?;
     page.labelled(MEANING, fault.when)?;

@@ -1,5 +1,5 @@
-//! The faults of files: what each means, what it usually comes from, and what to do. docs/FORMATS.md and docs/tourkit.1
-//! have the same texts, which `tests/explained` compares.
+//! The faults of files: the meaning of each, its usual causes, and what to do. docs/FORMATS.md and docs/tourkit.1
+//! contain the same texts, which `tests/explained` compares.
 ghost use Rattle.std.specs.Prelude.{◌≡◌, Some, map, slice_get};
 ghost use Rattle.tk_explain.specs.Faults.{fault_named, faults, named, param_named, text_named};
 
@@ -8,29 +8,29 @@ use tk_diagnosis::FileFault;
 use tk_params::ParamKind;
 use tk_words::TextKind;
 
-/// The files that have the faults of texts.
+/// The files that can have the faults of texts.
 const TEXTS: &str = "a problem, tour or solution file";
 
-/// Those that have the faults of parameters.
+/// The files that can have the faults of parameters.
 const PARAMETERS: &str = "a parameter file";
 
-/// Those that have the faults of an initial tour.
+/// The files that can have the faults of an initial tour.
 const INITIAL_TOURS: &str = "an initial tour";
 
 /// A fault, as the documents list it.
 #[derive(Clone, Copy)]
 pub struct FaultText {
-    /// The files that have it.
+    /// The files that can have it.
     pub files: &'static str,
     pub number: &'static str,
     pub name: &'static str,
-    /// What follows the name, with the blank before it; empty for most.
+    /// The text after the name, with a leading blank; empty for most faults.
     pub values: &'static str,
     /// When a file has it.
     pub when: &'static str,
-    /// What it usually comes from.
+    /// Its usual causes.
     pub causes: &'static str,
-    /// What to do.
+    /// The remedy.
     pub remedy: &'static str,
 }
 
@@ -342,7 +342,7 @@ pub fn faults() -> [&'static FaultText; 26]
     ]
 }
 
-/// What the table has on the fault of a file.
+/// The entry of the table for the fault of a file.
 pub fn text_of(fault: &FileFault) -> &'static FaultText
     ensures { named result.now ≡ fault_named fault.now }
 {
@@ -353,7 +353,7 @@ pub fn text_of(fault: &FileFault) -> &'static FaultText
     faults()[place]
 }
 
-/// Where the table has a fault of a problem, tour or solution file.
+/// The index in the table of a fault of a problem, tour or solution file.
 fn place_of_text_kind(kind: TextKind) -> usize
     ensures { slice_get faults result ≡ Some (text_named kind) }
 {
@@ -376,7 +376,7 @@ fn place_of_text_kind(kind: TextKind) -> usize
     }
 }
 
-/// Where it has one of a parameter file.
+/// The index in the table of a fault of a parameter file.
 fn place_of_parameter_kind(kind: ParamKind) -> usize
     ensures { slice_get faults result ≡ Some (param_named kind) }
 {

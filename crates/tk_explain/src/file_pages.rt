@@ -10,7 +10,7 @@ use crate::whole_file::{File, add_answer};
 use std::alloc::{AllocError, Global};
 use tk_diagnosis::{FileFault, Kind};
 
-/// The explanation of a file that was read as one of a kind.
+/// The explanation of a file, which was read as a file of this kind.
 #[derive(Drop)]
 pub struct FilePage {
     pub kind: Kind,
@@ -30,7 +30,7 @@ pub fn file_page(alloc: Global, name: &str, text: &[u8]) -> Result<FilePage, All
     page_of(&File::new(alloc, name, text), None)
 }
 
-/// The explanation of a line: of the first fault, if it is on this line, and else what the line is taken for.
+/// The explanation of a line: the first fault of the file, if it is on this line; otherwise how the line is read.
 pub fn line_page(
     alloc: Global,
     name: &str,
@@ -52,7 +52,7 @@ fn page_of(file: &File<'_>, line: Option<u64>) -> Result<FilePage, AllocError>
     page_of_answer(file, &answer, line)
 }
 
-/// The same, from what the reader of the file's kind answers.
+/// Like `page_of`, given the answer of the reader of the file.
 fn page_of_answer(
     file: &File<'_>,
     answer: &Answer,
@@ -70,7 +70,7 @@ fn page_of_answer(
     })
 }
 
-/// What is said of a file, or of one of its lines.
+/// The text of the explanation of a file, or of one of its lines.
 fn text_of(file: &File<'_>, answer: &Answer, line: Option<u64>) -> Result<String, AllocError>
     ensures { IfOk result (λ text. 0 < string_len text) }
 {

@@ -1,11 +1,11 @@
-//! What is said of a line: its fault if it has the first one, and else what it is taken for.
+//! The explanation of a line: the first fault of the file, if it is on this line; otherwise how the line is read.
 use crate::answer::{Answer, answer_to};
 use crate::page::Page;
 use crate::whole_file::{File, Numbered, add_answer, add_sound};
 use std::alloc::AllocError;
 use tk_diagnosis::{FileFault, Kind, Spot, last_line, taken_for};
 
-/// Adds what is said of a line.
+/// Adds the explanation of a line.
 ///
 /// # Errors
 /// `AllocError` if memory runs out, as for all functions here.
@@ -23,7 +23,7 @@ pub fn add_for_line(
     add_others(page, file, number)
 }
 
-/// Whether an answer is a fault on a line.
+/// Whether an answer is a fault on this line.
 fn is_faulty_at(answer: &Answer, line: u64) -> bool {
     match answer {
         Answer::Faulty(fault) => fault.line() == line,
@@ -31,7 +31,7 @@ fn is_faulty_at(answer: &Answer, line: u64) -> bool {
     }
 }
 
-/// Adds what is said of a whole file, in a line or two.
+/// Adds the summary of a whole file, in one or two lines.
 fn add_whole(page: &mut Page, file: &File<'_>, answer: &Answer) -> Result<(), AllocError> {
     match answer {
         Answer::Faulty(fault) => {
@@ -42,7 +42,7 @@ fn add_whole(page: &mut Page, file: &File<'_>, answer: &Answer) -> Result<(), Al
     }
 }
 
-/// Adds a line, and what it is taken for.
+/// Adds a line and how it is read, or a sentence that the file has no such line.
 fn add_line(page: &mut Page, file: &File<'_>, number: u64) -> Result<(), AllocError> {
     let last = last_line(file.text);
     if number > last {
@@ -51,12 +51,12 @@ fn add_line(page: &mut Page, file: &File<'_>, number: u64) -> Result<(), AllocEr
     add_taken(page, file.name, &file.spot(number))
 }
 
-/// Adds that the file of this name has no such line.
+/// Adds a sentence that the file with this name has no such line.
 fn add_missing(page: &mut Page, name: &str, number: u64, last: u64) -> Result<(), AllocError> {
     page.line(&format_args!("{name} has no line {number}: its last one is {last}."))
 }
 
-/// Adds what a line of the file of this name is taken for, and the line.
+/// Adds how a line of the file with this name is read, and the line.
 fn add_taken(page: &mut Page, name: &str, spot: &Spot<'_>) -> Result<(), AllocError> {
     let number = spot.number;
     let taken = taken_for(spot);
@@ -64,7 +64,7 @@ fn add_taken(page: &mut Page, name: &str, spot: &Spot<'_>) -> Result<(), AllocEr
     page.heading(&Numbered::of(spot))
 }
 
-/// Adds what a line is where another kind of file is wanted, if the first fault is on it there.
+/// Adds, for each other kind of file, the first fault that its reader reports, if it is on this line.
 fn add_others(page: &mut Page, file: &File<'_>, number: u64) -> Result<(), AllocError> {
     for other in [Kind::Problem, Kind::Tour, Kind::Solution, Kind::Parameters] {
         if other != file.kind {
@@ -74,7 +74,7 @@ fn add_others(page: &mut Page, file: &File<'_>, number: u64) -> Result<(), Alloc
     Ok(())
 }
 
-/// The same for one of the other kinds.
+/// Like `add_others`, for one of the other kinds.
 fn add_other(page: &mut Page, file: &File<'_>, kind: Kind, number: u64) -> Result<(), AllocError> {
     match fault_as(file, kind)? {
         Some(fault) if fault.line() == number => add_wanted(page, file.name, kind, &fault),
@@ -82,7 +82,7 @@ fn add_other(page: &mut Page, file: &File<'_>, kind: Kind, number: u64) -> Resul
     }
 }
 
-/// Adds that the line has this fault where a file of another kind is wanted.
+/// Adds a sentence that the line has this fault if a file of this kind is expected.
 fn add_wanted(
     page: &mut Page,
     name: &str,
@@ -98,7 +98,7 @@ fn add_wanted(
     page.line(&format_args!("Where {wanted} is wanted, this line is {name}:{fault}."))
 }
 
-/// The fault that a file has where one of this kind is wanted.
+/// The fault of a file, if it is read as a file of this kind.
 fn fault_as(file: &File<'_>, kind: Kind) -> Result<Option<FileFault>, AllocError> {
     Ok(answer_to(file.alloc, kind, file.text)?.fault())
 }

@@ -1,35 +1,35 @@
-//! The text of an explanation, as it grows.
+//! The text of an explanation, which is built line by line.
 ghost use Rattle.std.specs.Prelude.{◌<◌, IfOk};
 ghost use Rattle.std.specs.String.{string_len};
 
 use std::alloc::{AllocError, Global};
 use std::fmt;
 
-/// The most columns of a line.
+/// Maximum number of columns of a line.
 const WIDTH: usize = 100;
 
-/// The columns of a label, without the blank after it.
+/// The width of a label in columns, without the blank after it.
 const INDENT: usize = 13;
 
-/// What stands before the first word of a further line: the end of the line before it, a label's columns, and a blank.
+/// The text before the first word of a continuation line: a line feed, the width of a label in blanks, and a blank.
 const FURTHER: &str = "\n              ";
 
-/// What a fault means.
+/// The label of the meaning of a fault.
 pub const MEANING: &str = "Meaning:     ";
 
-/// What was wanted at its line.
+/// The label of what was expected at its line.
 pub const WANTED: &str = "Wanted here: ";
 
-/// What was read there.
+/// The label of what was found there.
 pub const READ: &str = "Read:        ";
 
-/// What it usually comes from.
+/// The label of its usual causes.
 pub const CAUSES: &str = "Usual causes:";
 
-/// What to do.
+/// The label of the remedy.
 pub const REMEDY: &str = "What to do:  ";
 
-/// The lines so far, without the line feed that ends the last one.
+/// The lines that have been added, without the line feed that ends the last one.
 #[derive(Drop)]
 pub struct Page {
     alloc: Global,
@@ -37,7 +37,7 @@ pub struct Page {
 }
 
 impl Page {
-    /// No line.
+    /// A page without lines.
     pub fn new(alloc: Global) -> Page {
         Page {
             alloc,
@@ -62,7 +62,7 @@ impl Page {
         write!(self.text, "{line}")
     }
 
-    /// Adds a line, and a blank one below it.
+    /// Adds a line, and a blank line after it.
     pub fn heading<D: fmt::Display>(&mut self, line: &D) -> Result<(), AllocError> {
         self.line(line)?;
         self.begin()
@@ -75,7 +75,7 @@ impl Page {
         self.wrap(text)
     }
 
-    /// Adds what is displayed of a value after a label.
+    /// Adds the text of a value after a label.
     pub fn labelled_value<D: fmt::Display>(
         &mut self,
         label: &str,
@@ -85,7 +85,7 @@ impl Page {
         self.labelled(label, &text)
     }
 
-    /// Adds the words of a text. They go on on further lines, which are indented.
+    /// Adds the words of a text. They continue on further lines, which are indented.
     fn wrap(&mut self, text: &str) -> Result<(), AllocError> {
         let mut column = INDENT;
         for word in text.split(' ') {
@@ -102,7 +102,7 @@ impl Page {
         Ok(())
     }
 
-    /// The whole text, with the end of its last line.
+    /// The whole text, with a line feed after its last line.
     pub fn finished(self) -> Result<String, AllocError>
         ensures { IfOk result (λ text. 0 < string_len text) }
     {

@@ -1,10 +1,10 @@
-//! What a file without a fault is.
+//! Summaries of files without a fault.
 use tk_diagnosis::Sentence;
 use tk_lists::{SolText, TourText};
 use tk_params::Params;
 use tk_problem::{Problem, Weights};
 
-/// What a file without a fault holds.
+/// The contents of a file without a fault.
 #[derive(Drop)]
 pub enum Sound {
     Problem(Problem),
@@ -14,7 +14,7 @@ pub enum Sound {
 }
 
 impl Sound {
-    /// What it is.
+    /// A summary of the contents, as a part of a sentence.
     pub fn sentence(&self) -> Sentence<'_> {
         match self {
             Sound::Problem(problem) => of_problem(problem),
@@ -31,7 +31,7 @@ impl Sound {
     }
 }
 
-/// What a problem is.
+/// A summary of a problem.
 fn of_problem(problem: &Problem) -> Sentence<'_> {
     let text = match problem.routing {
         None => "a TSP of {} cities named {}, with {} distances",
@@ -47,7 +47,7 @@ fn of_problem(problem: &Problem) -> Sentence<'_> {
     }
 }
 
-/// What a solution is.
+/// A summary of a solution.
 fn of_solution(solution: &SolText) -> Sentence<'_> {
     Sentence::of("a solution file of {} routes with {} customers, cost {}")
         .number(solution.routes.len() as u64)
@@ -55,7 +55,7 @@ fn of_solution(solution: &SolText) -> Sentence<'_> {
         .integer(solution.cost)
 }
 
-/// What its distances are.
+/// A word for the distances that these weights give.
 fn distances_of(weights: &Weights) -> &'static str {
     match weights {
         Weights::Points(kind, _) => kind.word(),
@@ -63,7 +63,7 @@ fn distances_of(weights: &Weights) -> &'static str {
     }
 }
 
-/// How many customers its routes have.
+/// The number of customers on the routes of a solution.
 fn customers_of(solution: &SolText) -> usize {
     let mut customers: usize = 0;
     for route in &solution.routes {

@@ -1,4 +1,4 @@
-//! What is said of a file: its first fault, or what it is.
+//! The explanation of a file: its first fault or, if it has none, a summary of its contents.
 ghost use Rattle.std.specs.Prelude.{◌≡◌};
 
 use crate::answer::Answer;
@@ -21,7 +21,7 @@ pub struct File<'a> {
 }
 
 impl<'a> File<'a> {
-    /// A file of the kind that its lines, or its name, show.
+    /// A file whose kind is recognized by its lines or its name.
     pub fn new(alloc: Global, name: &'a str, text: &'a [u8]) -> File<'a>
         ensures { result.text.now ≡ text.now }
     {
@@ -33,13 +33,13 @@ impl<'a> File<'a> {
         }
     }
 
-    /// One of its lines.
+    /// The line of the file with this number.
     pub fn spot(&self, number: u64) -> Spot<'a> {
         Spot::new(self.alloc, self.kind, self.text, number)
     }
 }
 
-/// Adds what is said of a whole file.
+/// Adds the explanation of a whole file.
 ///
 /// # Errors
 /// `AllocError` if memory runs out, as for all functions here.
@@ -50,7 +50,7 @@ pub fn add_answer(page: &mut Page, file: &File<'_>, answer: &Answer) -> Result<(
     }
 }
 
-/// Adds what a file without a fault is, and where it goes.
+/// Adds a summary of a file without a fault, and how such a file is used.
 pub fn add_sound(page: &mut Page, file: &File<'_>, sound: &Sound) -> Result<(), AllocError> {
     let name = file.name;
     let what = sound.sentence();
@@ -58,7 +58,7 @@ pub fn add_sound(page: &mut Page, file: &File<'_>, sound: &Sound) -> Result<(), 
     page.line(&use_of(file.kind))
 }
 
-/// Where a file of a kind goes.
+/// How a file of this kind is used.
 fn use_of(kind: Kind) -> &'static str {
     match kind {
         Kind::Problem =>
@@ -70,14 +70,14 @@ fn use_of(kind: Kind) -> &'static str {
     }
 }
 
-/// Adds the fault of a file: its line, what it means, what stands there, and what to do.
+/// Adds the explanation of a fault: its line, its meaning, what was expected and found at the line, and what to do.
 fn add_fault(page: &mut Page, file: &File<'_>, fault: &FileFault) -> Result<(), AllocError> {
     let name = file.name;
     page.heading(&format_args!("{name}:{fault}"))?;
     add_at(page, file, fault, &file.spot(fault.line()))
 }
 
-/// Adds what stands at the spot of a fault. Where the file is no text, the usual causes do not go with it.
+/// Adds the diagnosis of a fault at its line. If the file is not a text, the usual causes are left out.
 fn add_at(
     page: &mut Page,
     file: &File<'_>,
@@ -90,7 +90,7 @@ fn add_at(
     }
 }
 
-/// Adds what stands at the line of a fault.
+/// Adds the diagnosis of a fault, with its meaning and, if they apply, its usual causes.
 fn add_here(
     page: &mut Page,
     file: &File<'_>,
@@ -108,13 +108,13 @@ fn add_here(
     add_remedy(page, here, general)
 }
 
-/// Adds what was wanted at the line, and what was read.
+/// Adds what was expected at the line, and what was found there.
 fn add_read(page: &mut Page, here: &Here<'_>) -> Result<(), AllocError> {
     page.labelled_value(WANTED, &here.wanted)?;
     page.labelled_value(READ, &here.read)
 }
 
-/// Adds what to do: what stands at the line may say it, and else the table of faults does.
+/// Adds what to do: the remedy of the diagnosis or, without one, that of the table of faults.
 fn add_remedy(page: &mut Page, here: &Here<'_>, general: &FaultText) -> Result<(), AllocError> {
     match &here.remedy {
         Some(remedy) => page.labelled_value(REMEDY, remedy),
@@ -122,7 +122,7 @@ fn add_remedy(page: &mut Page, here: &Here<'_>, general: &FaultText) -> Result<(
     }
 }
 
-/// Adds a line and another one, in their order, and a blank line.
+/// Adds a line and, if there is one, another line, in the order of the file, and a blank line.
 fn add_lines(
     page: &mut Page,
     file: &File<'_>,
@@ -137,12 +137,12 @@ fn add_lines(
     page.begin()
 }
 
-/// Adds a line as it stands in the file.
+/// Adds a line of the file after its number.
 fn add_numbered(page: &mut Page, file: &File<'_>, number: u64) -> Result<(), AllocError> {
     page.line(&Numbered::of(&file.spot(number)))
 }
 
-/// A line as it stands in the file, after its number.
+/// A line of a file after its number.
 #[derive(Clone, Copy)]
 pub struct Numbered<'a> {
     number: u64,
