@@ -7,32 +7,32 @@ use std::alloc::Global;
 /// An argument of a subcommand.
 #[derive(Clone, Copy)]
 pub struct Argument {
-    /// The name by which its value is asked for.
+    /// The name of the argument, by which its value is looked up.
     pub name: &'static str,
     pub help: &'static str,
     pub form: Form,
-    /// What its value has to be.
+    /// The values that it accepts.
     pub values: ValueParser<'static>,
 }
 
-/// How an argument is written.
+/// The syntax of an argument.
 #[derive(Clone, Copy)]
 pub enum Form {
-    /// A word that must be given.
+    /// A positional argument that is required.
     Required,
-    /// A word that can be left out.
+    /// A positional argument that can be left out.
     Optional,
     /// `--NAME`
     Flag,
-    /// `--NAME VALUE`, with the word that help shows for the value.
+    /// `--NAME VALUE`, with the word that the help shows for the value.
     Long(&'static str),
     /// `--NAME FILE`, or `-C FILE` with this letter.
     File(char),
-    /// `-C N` with this letter, and what it is if it is not given.
+    /// `-C N` with this letter, and the default of N.
     Number(char, &'static str),
 }
 
-/// The file that most subcommands name first.
+/// The problem file, which is the first argument of most subcommands.
 pub const PROBLEM: Argument = Argument {
     name: "PROBLEM",
     help: "a TSPLIB or CVRPLIB problem file, or - for standard input",
@@ -40,7 +40,7 @@ pub const PROBLEM: Argument = Argument {
     values: ValueParser::String,
 };
 
-/// The option that asks for an object in place of lines.
+/// The option that requests one JSON object instead of text.
 pub const JSON: Argument = Argument {
     name: "json",
     help: "print one JSON object in place of lines",
@@ -49,7 +49,7 @@ pub const JSON: Argument = Argument {
 };
 
 impl Argument {
-    /// What clap knows of it.
+    /// The argument, as clap takes it.
     pub fn arg<'a>(&self, alloc: Global) -> Arg<'a> {
         let arg = Arg::new(alloc, self.name)
             .help(self.help)

@@ -1,4 +1,4 @@
-//! What the words of a call ask for.
+//! Parsed command lines.
 
 use crate::completions::Shell;
 use crate::search_options::SearchOptions;
@@ -7,7 +7,8 @@ use tk_near::ListLength;
 /// The name of standard input.
 pub const STANDARD: &str = "-";
 
-/// What the words of a call ask for: a subcommand with its files, or completions. [`STANDARD`] names standard input.
+/// A parsed command line: a subcommand with its files and options, or a request for completions. [`STANDARD`] names
+/// standard input.
 #[derive(Drop)]
 pub enum Asked<'a> {
     /// `check PROBLEM TOUR [--json]`
@@ -47,7 +48,7 @@ pub enum Asked<'a> {
         claim: Option<&'a str>,
         html: bool,
     },
-    /// `solve PARAMETERS [--progress] [--json]`, or `solve PROBLEM` with options of a search
+    /// `solve PARAMETERS [--progress] [--json]`, or `solve PROBLEM` with search options
     Solve {
         file: &'a str,
         options: Option<SearchOptions<'a>>,
@@ -55,11 +56,11 @@ pub enum Asked<'a> {
     },
 }
 
-/// What `solve` shows besides the lines that it prints at its end.
+/// The display options of `solve`.
 #[derive(Clone, Copy)]
 pub struct Shown {
-    /// Each run's line, on standard error, when the run ends.
+    /// Whether each run's line is written to standard error when the run ends.
     pub progress: bool,
-    /// An object with what the lines say, in place of these lines.
+    /// Whether one JSON object is printed instead of text.
     pub json: bool,
 }

@@ -6,11 +6,11 @@ use clap::error::ErrorKind;
 use clap::{Command, Error};
 use std::alloc::{AllocError, Global};
 
-/// How the program is called.
+/// The usage of the program.
 const USAGE: &str = "tourkit <COMMAND>
        tourkit --completions <SHELL>";
 
-/// What `--help` ends with.
+/// The text at the end of `--help`.
 const HELP: &str = "An invalid file is reported on standard error as FILE:LINE: NUMBER NAME.
 tourkit explain NUMBER says what a fault means, and tourkit explain FILE how to mend the file.
 
@@ -23,10 +23,10 @@ Exit status:
 Example:
   tourkit check examples/tri.tsp examples/tri.tour";
 
-/// The program with its subcommands. One of them has to be named, unless completions are asked for.
+/// The command of the program with its subcommands. One of them must be named, unless completions are requested.
 ///
 /// # Errors
-/// An error if memory runs out.
+/// `AllocError` if memory runs out.
 pub fn tourkit<'a>(alloc: Global, for_completions: bool) -> Result<Command<'a>, AllocError> {
     let mut made = program(alloc, for_completions)?;
     for subcommand in &subcommands::all() {
@@ -35,7 +35,7 @@ pub fn tourkit<'a>(alloc: Global, for_completions: bool) -> Result<Command<'a>, 
     Ok(made)
 }
 
-/// The program without its subcommands.
+/// The command of the program without its subcommands.
 fn program<'a>(alloc: Global, for_completions: bool) -> Result<Command<'a>, AllocError> {
     described(
         alloc,
@@ -60,10 +60,10 @@ fn with<'a>(
     command.subcommand(subcommand)
 }
 
-/// What is wrong with words of a subcommand that do not fit each other.
+/// The error about arguments of a subcommand that cannot be combined.
 ///
 /// # Errors
-/// An error if memory runs out.
+/// `AllocError` if memory runs out.
 pub fn refused(alloc: Global, subcommand: &Subcommand, message: &str) -> Result<Error, AllocError> {
     let mut command = subcommand.command(alloc, subcommand.called)?;
     command.error(ErrorKind::ArgumentConflict, message)

@@ -1,11 +1,11 @@
-//! The words that ask for completions.
+//! The option that requests completions.
 
 use crate::argument::{Argument, Form};
 use crate::asked::Asked;
 use clap::ArgMatches;
 use clap::builder::ValueParser;
 
-/// A shell that completions are for.
+/// A shell for which there are completions.
 #[derive(Clone, Copy)]
 pub enum Shell {
     Bash,
@@ -16,7 +16,7 @@ pub enum Shell {
 /// The names of the shells.
 const SHELLS: [&str; 3] = ["bash", "zsh", "fish"];
 
-/// The option that asks for completions.
+/// The option that requests completions.
 pub const COMPLETIONS: Argument = Argument {
     name: "completions",
     help: "print the completions for a shell",
@@ -24,14 +24,14 @@ pub const COMPLETIONS: Argument = Argument {
     values: ValueParser::Names(&SHELLS),
 };
 
-/// Whether the first word of a call is this option. No subcommand comes with it.
+/// Whether the first argument of a call is this option. It cannot be combined with a subcommand.
 pub fn are_asked(words: &[String]) -> bool {
     words
         .get(1)
         .is_some_and(|word| word.as_str().starts_with("--completions"))
 }
 
-/// What the words ask for.
+/// The request for completions, if the arguments contain it.
 pub fn asked<'a>(words: &ArgMatches<'a>) -> Option<Asked<'a>> {
     let shell = match words.get_str(COMPLETIONS.name)? {
         "bash" => Shell::Bash,

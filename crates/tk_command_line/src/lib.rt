@@ -1,4 +1,4 @@
-//! The arguments of the program: its subcommands with their help, and what the words of a call ask for.
+//! The command line of the program: its subcommands with their help, and the parser of its arguments.
 #![tactic(auto)]
 
 mod argument;

@@ -1,4 +1,4 @@
-//! From the words of a call to what they ask for.
+//! Parses the arguments of a call.
 
 use crate::asked::{Asked, STANDARD};
 use crate::command::{refused, tourkit};
@@ -10,29 +10,29 @@ use clap::error::ErrorKind;
 use clap::{ArgMatches, Error};
 use std::alloc::Global;
 
-/// The exit status of words that are refused.
+/// The exit status if the arguments are rejected.
 const USAGE: u8 = 2;
 
-/// What is wrong with words that name standard input twice.
+/// The message if both files are standard input.
 const TWICE_STANDARD: &str = "only one of the files can be standard input '-'";
 
-/// What is wrong with words that name standard input as the file to write.
+/// The message if standard input is named as the output file.
 const STANDARD_OUTPUT: &str = "the file of '--output' cannot be '-', which is standard input";
 
-/// Why nothing is asked for.
+/// Why there is no request.
 pub enum Refusal {
-    /// There was no memory.
+    /// Memory ran out.
     NoMemory,
-    /// Help, the version or what is wrong with the words could not be written.
+    /// Help, the version or the error about the arguments could not be written.
     Unwritten,
-    /// It was written, and the program ends with this status.
+    /// It was written, and the program exits with this status.
     Told(u8),
 }
 
-/// What the words of a call ask for. Else help, the version or what is wrong with the words is written.
+/// Parses the arguments of a call. If they do not make a request, writes help, the version or the error about them.
 ///
 /// # Errors
-/// `Refusal`, as it says.
+/// A `Refusal` if there is no request.
 pub fn parse<'a>(rt: &HostRuntime, words: &'a [String]) -> Result<Asked<'a>, Refusal> {
     match asked(rt.alloc(), words) {
         Ok(Some(asked)) => Ok(asked),
@@ -41,7 +41,7 @@ pub fn parse<'a>(rt: &HostRuntime, words: &'a [String]) -> Result<Asked<'a>, Ref
     }
 }
 
-/// Writes help, the version, or what is wrong with the words.
+/// Writes help, the version or the error about the arguments.
 fn tell(rt: &HostRuntime, words: &[String], error: &Error) -> Refusal {
     if error.kind() == ErrorKind::OutOfMemory {
         return Refusal::NoMemory;
@@ -57,7 +57,7 @@ fn tell(rt: &HostRuntime, words: &[String], error: &Error) -> Refusal {
     }
 }
 
-/// What the words ask for, if they can be parsed and fit each other.
+/// The request of the arguments, if they can be parsed and combined.
 fn asked<'a>(alloc: Global, words: &'a [String]) -> Result<Option<Asked<'a>>, Error> {
     let command = tourkit(alloc, completions::are_asked(words))?;
     let matches = command.try_get_matches_from(words)?;
@@ -67,7 +67,7 @@ fn asked<'a>(alloc: Global, words: &'a [String]) -> Result<Option<Asked<'a>>, Er
     }
 }
 
-/// What the words of the subcommand with this name ask for, if they fit each other.
+/// The request of the arguments of the subcommand with this name, if they can be combined.
 fn asked_of<'a>(
     alloc: Global,
     name: &str,
@@ -83,7 +83,7 @@ fn asked_of<'a>(
     }
 }
 
-/// What is wrong with words that do not fit each other: they name standard input twice, or as the file to write.
+/// The message about arguments that cannot be combined: standard input is named twice, or as the output file.
 fn misfit(asked: &Asked<'_>) -> Option<&'static str> {
     let (first, second, written) = match *asked {
         Asked::Check { problem, tour, .. } => (problem, Some(tour), None),
@@ -109,7 +109,7 @@ fn misfit(asked: &Asked<'_>) -> Option<&'static str> {
     }
 }
 
-/// What the words of a subcommand ask for.
+/// The request of the arguments of a subcommand.
 fn asked_by<'a>(kind: Kind, words: &ArgMatches<'a>) -> Option<Asked<'a>> {
     match kind {
         Kind::Check => check::asked(words),

@@ -1,23 +1,23 @@
-//! The options by which `solve` searches without a parameter file.
+//! The options of `solve` for a search without a parameter file.
 
-/// What the options say, as they were written; `None` for those that were not given.
+/// The values of the options, as they were written; `None` for those that were not given.
 #[derive(Clone, Copy)]
 pub struct SearchOptions<'a> {
-    /// `-o`: where the best tour, or the routes, are written.
+    /// `-o`: the file to which the best tour or the routes are written.
     pub output: Option<&'a str>,
     /// `--initial-tour`: the tour that each run begins with.
     pub initial_tour: Option<&'a str>,
     /// `--runs`
     pub runs: Option<&'a str>,
-    /// `--trials`: how many trials each run has.
+    /// `--trials`: the number of trials per run.
     pub trials: Option<&'a str>,
     /// `--seed`
     pub seed: Option<&'a str>,
-    /// `--candidates`: how many near cities of each city are tried.
+    /// `--candidates`: the length of the near lists.
     pub candidates: Option<&'a str>,
-    /// `--construction`: how the tour is made that a run begins with.
+    /// `--construction`: how starting tours are constructed.
     pub construction: Option<&'a str>,
-    /// `--or-segment`: the most cities of a segment that is moved.
+    /// `--or-segment`: the maximum number of cities in a segment that is moved.
     pub or_segment: Option<&'a str>,
     /// `--final-sweep`
     pub final_sweep: bool,

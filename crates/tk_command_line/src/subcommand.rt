@@ -4,21 +4,21 @@ use crate::argument::Argument;
 use clap::Command;
 use std::alloc::{AllocError, Global};
 
-/// A subcommand with what it takes.
+/// A subcommand with its arguments.
 #[derive(Clone, Copy)]
 pub struct Subcommand {
     pub kind: Kind,
     pub name: &'static str,
-    /// The words by which it is called.
+    /// The words by which it is called, for errors about its arguments.
     pub called: &'static str,
-    /// What its help begins with.
+    /// The text at the beginning of its help.
     pub about: &'static str,
-    /// What its help ends with.
+    /// The text at the end of its help.
     pub more: &'static str,
     pub arguments: &'static [Argument],
 }
 
-/// Which subcommand it is.
+/// The subcommands.
 #[derive(Clone, Copy)]
 pub enum Kind {
     Check,
@@ -31,10 +31,10 @@ pub enum Kind {
 }
 
 impl Subcommand {
-    /// What clap knows of it, under a name.
+    /// The subcommand as a command of clap with this name.
     ///
     /// # Errors
-    /// An error if memory runs out.
+    /// `AllocError` if memory runs out.
     pub fn command<'a>(
         &self,
         alloc: Global,
@@ -48,7 +48,7 @@ impl Subcommand {
     }
 }
 
-/// A command with what its help begins with, and what it ends with.
+/// A command with the texts at the beginning and at the end of its help.
 pub fn described<'a>(
     alloc: Global,
     name: &'static str,

@@ -1,4 +1,4 @@
-//! The subcommands with their words.
+//! The subcommands with their arguments.
 pub mod check;
 pub mod checksol;
 pub mod explain;
@@ -9,7 +9,7 @@ pub mod solve;
 
 use crate::subcommand::Subcommand;
 
-/// All of them, as help lists them.
+/// All subcommands, in the order of the help.
 pub fn all() -> [Subcommand; 7] {
     [
         check::subcommand(),
@@ -22,7 +22,7 @@ pub fn all() -> [Subcommand; 7] {
     ]
 }
 
-/// The one with this name.
+/// The subcommand with this name, if there is one.
 pub fn named(name: &str) -> Option<Subcommand> {
     for subcommand in &all() {
         if subcommand.name == name {

@@ -1,4 +1,4 @@
-//! Tips for a word that a subcommand does not take.
+//! Tips for an argument that a subcommand does not accept.
 
 use crate::argument::{Argument, Form};
 use crate::subcommand::Subcommand;
@@ -7,22 +7,22 @@ use clap::Error;
 use clap::error::ErrorKind;
 use std::alloc::{AllocError, Global};
 
-/// What stands before the word in clap's message, and after it.
+/// The texts before and after the argument in clap's message.
 const BEFORE: &str = "error: unexpected argument '";
 
 const AFTER: &str = "' found";
 
-/// What the usage begins with in clap's message.
+/// The beginning of the usage in clap's message.
 const USAGE: &str = "\n\nUsage:";
 
-/// What clap's message has where an option of the subcommand is similar to the word.
+/// A part of clap's message if an option of the subcommand is similar to the argument.
 const SIMILAR: &str = "a similar argument exists";
 
-/// The message of an error with other tips, where a subcommand got a word that it does not take: which subcommands have
-/// such an option, and what this one takes. `None` where clap's own message is as good.
+/// The message of an error with other tips, if a subcommand got an argument that it does not accept. The tips name the
+/// subcommands that have such an option, and the arguments of this one. `None` if clap's own message is to be written.
 ///
 /// # Errors
-/// An error if memory runs out.
+/// `AllocError` if memory runs out.
 pub fn with_tips(
     alloc: Global,
     words: &[String],
@@ -41,7 +41,7 @@ pub fn with_tips(
     }
 }
 
-/// The word and the usage in clap's message, unless it names a similar option.
+/// The argument and the usage in clap's message, unless the message names a similar option.
 fn parts_of(said: &str) -> Option<(&str, &str)> {
     let (word, more) = said.strip_prefix(BEFORE)?.split_once(AFTER)?;
     let (tips, usage) = more.split_once(USAGE)?;
@@ -51,7 +51,7 @@ fn parts_of(said: &str) -> Option<(&str, &str)> {
     Some((word, usage))
 }
 
-/// The message about a word that a subcommand does not take.
+/// The message about an argument that a subcommand does not accept.
 fn tipped(
     alloc: Global,
     subcommand: &Subcommand,
@@ -68,7 +68,7 @@ fn tipped(
     Ok(text)
 }
 
-/// Puts a tip for each option of a subcommand that has the word's name.
+/// Adds a tip for each option of a subcommand that the argument names.
 fn push_owned(text: &mut String, subcommand: &Subcommand, word: &str) -> Result<(), AllocError> {
     for argument in subcommand.arguments {
         if is_named(argument, word) {
@@ -80,7 +80,7 @@ fn push_owned(text: &mut String, subcommand: &Subcommand, word: &str) -> Result<
     Ok(())
 }
 
-/// Puts the tip that says what a subcommand takes.
+/// Adds the tip that lists the arguments of a subcommand.
 fn push_taken(text: &mut String, subcommand: &Subcommand) -> Result<(), AllocError> {
     write!(text, "\n  tip: '{}' takes ", subcommand.name)?;
     for (i, argument) in subcommand.arguments.iter().enumerate() {
@@ -92,7 +92,7 @@ fn push_taken(text: &mut String, subcommand: &Subcommand) -> Result<(), AllocErr
     Ok(())
 }
 
-/// Whether a word is the name of an option, with one dash or two.
+/// Whether an argument is the name of this option, with one dash or two.
 fn is_named(argument: &Argument, word: &str) -> bool {
     let Some(name) = word.strip_prefix('-') else {
         return false;
@@ -106,12 +106,12 @@ fn is_named(argument: &Argument, word: &str) -> bool {
     }
 }
 
-/// Whether a name is this letter.
+/// Whether a name consists of this letter.
 fn is_letter(name: &str, letter: char) -> bool {
     name.len() == letter.len_utf8() && name.starts_with(letter)
 }
 
-/// Puts how an argument is written: an option with its dashes, and a word by its name.
+/// Adds an argument as it is written: an option with its dashes, a positional argument by its name.
 fn push_name(text: &mut String, argument: &Argument) -> Result<(), AllocError> {
     match argument.form {
         Form::Flag | Form::Long(_) | Form::File(_) => write!(text, "--{}", argument.name),

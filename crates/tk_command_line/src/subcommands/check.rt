@@ -1,4 +1,4 @@
-//! The words of `check`.
+//! The arguments of `check`.
 
 use crate::argument::{Argument, Form, JSON, PROBLEM};
 use crate::asked::Asked;
@@ -6,7 +6,7 @@ use crate::subcommand::{Kind, Subcommand};
 use clap::ArgMatches;
 use clap::builder::ValueParser;
 
-/// What `check --help` ends with.
+/// The text at the end of `check --help`.
 const HELP: &str = "Reads PROBLEM and TOUR, one of which may be - for standard input.
 Prints the length of the tour, or the first thing that is wrong with it.
 
@@ -19,7 +19,7 @@ Exit status:
 Example:
   tourkit check examples/tri.tsp examples/tri.tour";
 
-/// What it takes.
+/// The arguments of the subcommand.
 static ARGUMENTS: [Argument; 3] = [
     PROBLEM,
     Argument {
@@ -43,7 +43,7 @@ pub fn subcommand() -> Subcommand {
     }
 }
 
-/// What the words ask for.
+/// The request that these arguments make.
 pub fn asked<'a>(words: &ArgMatches<'a>) -> Option<Asked<'a>> {
     Some(Asked::Check {
         problem: words.get_str("PROBLEM")?,

@@ -1,4 +1,4 @@
-//! The words of `checksol`.
+//! The arguments of `checksol`.
 
 use crate::argument::{Argument, Form, JSON, PROBLEM};
 use crate::asked::Asked;
@@ -6,7 +6,7 @@ use crate::subcommand::{Kind, Subcommand};
 use clap::ArgMatches;
 use clap::builder::ValueParser;
 
-/// What `checksol --help` ends with.
+/// The text at the end of `checksol --help`.
 const HELP: &str = "Reads PROBLEM and SOLUTION, one of which may be - for standard input.
 Prints how many routes there are and what they cost, or the first thing that is wrong with them.
 
@@ -19,7 +19,7 @@ Exit status:
 Example:
   tourkit checksol examples/bakery.vrp examples/bakery-plan.sol";
 
-/// What it takes.
+/// The arguments of the subcommand.
 static ARGUMENTS: [Argument; 3] = [
     PROBLEM,
     Argument {
@@ -43,7 +43,7 @@ pub fn subcommand() -> Subcommand {
     }
 }
 
-/// What the words ask for.
+/// The request that these arguments make.
 pub fn asked<'a>(words: &ArgMatches<'a>) -> Option<Asked<'a>> {
     Some(Asked::Checksol {
         problem: words.get_str("PROBLEM")?,

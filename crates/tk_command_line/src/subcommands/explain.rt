@@ -1,4 +1,4 @@
-//! The words of `explain`.
+//! The arguments of `explain`.
 
 use crate::argument::{Argument, Form};
 use crate::asked::Asked;
@@ -6,7 +6,7 @@ use crate::subcommand::{Kind, Subcommand};
 use clap::ArgMatches;
 use clap::builder::ValueParser;
 
-/// What `explain --help` ends with.
+/// The text at the end of `explain --help`.
 const HELP: &str = "Prints what a fault means, what it usually comes from, and what to do.
 If WHAT is a file, reads it as the problem, tour, solution or parameter file that it is, and explains its first fault:
 the line, what was wanted there and what was read. If it has no fault, prints what it is.
@@ -20,7 +20,7 @@ Exit status:
 Example:
   tourkit explain TrailingData";
 
-/// What it takes.
+/// The arguments of the subcommand.
 static ARGUMENTS: [Argument; 2] = [
     Argument {
         name: "WHAT",
@@ -48,7 +48,7 @@ pub fn subcommand() -> Subcommand {
     }
 }
 
-/// What the words ask for.
+/// The request that these arguments make.
 pub fn asked<'a>(words: &ArgMatches<'a>) -> Option<Asked<'a>> {
     Some(Asked::Explain {
         what: words.get_str("WHAT")?,

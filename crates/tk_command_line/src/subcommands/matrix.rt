@@ -1,4 +1,4 @@
-//! The words of `matrix`.
+//! The arguments of `matrix`.
 
 use crate::argument::{Argument, Form, PROBLEM};
 use crate::asked::Asked;
@@ -6,7 +6,7 @@ use crate::subcommand::{Kind, Subcommand};
 use clap::ArgMatches;
 use clap::builder::ValueParser;
 
-/// What `matrix --help` ends with.
+/// The text at the end of `matrix --help`.
 const HELP: &str = "Reads PROBLEM, of at most 5,000 nodes.
 Prints a TSPLIB problem file that lists every distance in the order of FORMAT.
 
@@ -18,7 +18,7 @@ Exit status:
 Example:
   tourkit matrix examples/five.tsp LOWER_DIAG_ROW";
 
-/// The words of the formats.
+/// The names of the formats.
 const FORMATS: [&str; 9] = [
     "FULL_MATRIX",
     "UPPER_ROW",
@@ -31,7 +31,7 @@ const FORMATS: [&str; 9] = [
     "LOWER_DIAG_COL",
 ];
 
-/// What it takes.
+/// The arguments of the subcommand.
 static ARGUMENTS: [Argument; 2] = [
     PROBLEM,
     Argument {
@@ -54,7 +54,7 @@ pub fn subcommand() -> Subcommand {
     }
 }
 
-/// What the words ask for.
+/// The request that these arguments make.
 pub fn asked<'a>(words: &ArgMatches<'a>) -> Option<Asked<'a>> {
     Some(Asked::Matrix {
         problem: words.get_str("PROBLEM")?,

@@ -1,4 +1,4 @@
-//! The words of `near`.
+//! The arguments of `near`.
 
 use crate::argument::{Argument, Form, PROBLEM};
 use crate::asked::Asked;
@@ -8,7 +8,7 @@ use clap::builder::ValueParser;
 use tk_near::ListLength;
 use tk_problem::CANDIDATE_LIMIT;
 
-/// What `near --help` ends with.
+/// The text at the end of `near --help`.
 const HELP: &str = "Reads PROBLEM.
 Prints a line for each city: its number, and the N nearest other cities by distance and then by number.
 
@@ -20,7 +20,7 @@ Exit status:
 Example:
   zcat berlin52.tsp.gz | tourkit near - -k 5";
 
-/// What it takes.
+/// The arguments of the subcommand.
 static ARGUMENTS: [Argument; 2] = [
     PROBLEM,
     Argument {
@@ -43,7 +43,7 @@ pub fn subcommand() -> Subcommand {
     }
 }
 
-/// What the words ask for.
+/// The request that these arguments make.
 pub fn asked<'a>(words: &ArgMatches<'a>) -> Option<Asked<'a>> {
     Some(Asked::Near {
         problem: words.get_str("PROBLEM")?,

@@ -1,4 +1,4 @@
-//! The words of `plot`.
+//! The arguments of `plot`.
 
 use crate::argument::{Argument, Form, PROBLEM};
 use crate::asked::Asked;
@@ -6,7 +6,7 @@ use crate::subcommand::{Kind, Subcommand};
 use clap::ArgMatches;
 use clap::builder::ValueParser;
 
-/// What `plot --help` ends with.
+/// The text at the end of `plot --help`.
 const HELP: &str = "Reads PROBLEM and TOUR or SOLUTION, one of which may be - for standard input.
 Prints a picture as SVG: the cities, the tour or the routes, and the depot of a CVRP.
 With --html, prints a page (HTML) that needs nothing else: the picture to zoom and move, the number, place and demand
@@ -24,7 +24,7 @@ Examples:
   tourkit plot examples/tri.tsp examples/tri.tour >tri.svg
   tourkit plot --html examples/bakery.vrp examples/bakery-plan.sol >bakery.html";
 
-/// What it takes.
+/// The arguments of the subcommand.
 static ARGUMENTS: [Argument; 3] = [
     PROBLEM,
     Argument {
@@ -53,7 +53,7 @@ pub fn subcommand() -> Subcommand {
     }
 }
 
-/// What the words ask for.
+/// The request that these arguments make.
 pub fn asked<'a>(words: &ArgMatches<'a>) -> Option<Asked<'a>> {
     Some(Asked::Plot {
         problem: words.get_str("PROBLEM")?,

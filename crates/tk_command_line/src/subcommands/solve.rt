@@ -1,4 +1,4 @@
-//! The words of `solve`.
+//! The arguments of `solve`.
 
 use crate::argument::{Argument, Form, JSON};
 use crate::asked::{Asked, Shown};
@@ -8,7 +8,7 @@ use clap::ArgMatches;
 use clap::builder::ValueParser;
 use tk_problem::CANDIDATE_LIMIT;
 
-/// What `solve --help` ends with.
+/// The text at the end of `solve --help`.
 const HELP: &str =
     "With options of a search, or -o, the file is PROBLEM. Else it is PARAMETERS, which says all of a search.
 Prints a line for each run and the best length, or the costs of the routes of a CVRP.
@@ -24,10 +24,10 @@ Examples:
   tourkit solve examples/board.tsp --trials 2000 -o board.tour
   tourkit solve examples/bakery.par";
 
-/// The words of `--construction`.
+/// The values of `--construction`.
 const CONSTRUCTIONS: [&str; 2] = ["nearest", "savings"];
 
-/// What it takes.
+/// The arguments of the subcommand.
 static ARGUMENTS: [Argument; 12] = [
     Argument {
         name: "PROBLEM | PARAMETERS",
@@ -110,7 +110,7 @@ pub fn subcommand() -> Subcommand {
     }
 }
 
-/// What the words ask for.
+/// The request that these arguments make.
 pub fn asked<'a>(words: &ArgMatches<'a>) -> Option<Asked<'a>> {
     let options = SearchOptions {
         output: words.get_str("output"),
