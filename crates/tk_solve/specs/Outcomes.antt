@@ -1,4 +1,4 @@
--- What is kept of the runs so far.
+-- The results that are kept of completed runs.
 use Rattle.std.specs.Prelude.{◌≡◌, ◌≢◌, ◌<ℤ◌, ◌≤ℤ◌, ℕ, ℤ, List, [], ◌∷◌, ◌++◌, length, pos}
 use Rattle.tk_near.specs.Near.{NearLists}
 use Rattle.tk_tour.specs.Tour.{tour_length}
@@ -9,11 +9,11 @@ use Rattle.tk_solve.specs.Events.{Event}
 use Rattle.tk_solve.specs.Runs.{Run, AreSoFar}
 use Rattle.tk_solve.specs.Starts.{TourTask}
 
--- a report of each run, and the best tour of the first one with the least length
+-- a report of each run, and the shortest of their best tours, the earliest one if there are several
 abbrev pub AreKept : TourTask → NearLists → List Run → Outcome → Type 0
 AreKept task near runs outcome = AreSoFar task near runs outcome.reports.items outcome.cities.items outcome.shortest
 
--- run j was added to the runs before it, whatever these are, and it was watched
+-- run j was added to the runs before it, whatever these are, and its events satisfy Watched
 abbrev pub IsRunAdded : TourTask → NearLists → ℕ → (List Event → Type 0) → Outcome → Outcome → Type 0
 IsRunAdded task near j Watched old new =
     (runs : List Run) → length runs ≡ j → AreKept task near runs old →
@@ -26,7 +26,7 @@ best_length distance ended = pos (tour_length distance ended.best)
 abbrev pub report_of : (ℕ → ℕ → ℕ) → Searching → RunReport
 report_of distance ended = record { best = best_length distance ended; totals = ended.totals }
 
--- one more run was noted, which ended with this search: its best tour is kept where none was before, or where it is
+-- one more run, which ended with this search, was recorded: its best tour is kept if there was none before, or if it is
 -- shorter
 pub record IsTaken (distance : ℕ → ℕ → ℕ) (ended : Searching) (old new : Outcome) : Type 0 where
   pub reports : new.reports.items ≡ old.reports.items ++ report_of distance ended ∷ []

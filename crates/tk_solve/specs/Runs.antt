@@ -1,10 +1,10 @@
 -- The runs of a search for a tour.
---     Trials told begun words t shown ended rest      t trials, and what is shown of each
---     IsRun task near j run      run j, from 0: its trials from its start, with random words of its own
---     AreRuns task near runs      one after another, from run 0 on
---     best_tours runs      the best tour of each
---     shown_of runs      what is shown of them
---     AreSoFar task near runs reports cities shortest      what is kept of the runs so far
+--     Trials told begun words t shown ended rest      t trials, and the event of each
+--     IsRun task near j run      run j, counted from 0: its trials from its start, with random words of its own
+--     AreRuns task near runs      runs one after another, from run 0 on
+--     best_tours runs      the best tour of each run
+--     shown_of runs      the events of all runs
+--     AreSoFar task near runs reports cities shortest      the results that are kept of these runs
 use Rattle.std.specs.Prelude.{◌≡◌, ℕ, ℤ, ◌+◌, ◌≤◌, List, [], ◌∷◌, ◌++◌, flat_map, length, map, pos}
 use Rattle.rand_core.specs.Pcg32Seed.{pcg32_seed}
 use Rattle.rand_core.specs.Steps.{stream_of, steps_u32}
@@ -21,7 +21,7 @@ use Rattle.tk_solve.specs.Events.{Event, Ended}
 use Rattle.tk_solve.specs.Starts.{TourTask, IsStart, trials_of}
 use Rattle.tk_solve.specs.Watching.{trial_event}
 
--- the start of a run, the best tour that it found, what it counted, and what is shown of it
+-- the start of a run, the best tour that it found, its counters, and its events
 pub record Run : Type 0 where
   pub start : List ℕ
   pub best : List ℕ
@@ -31,7 +31,7 @@ pub record Run : Type 0 where
 abbrev pub run_length : (ℕ → ℕ → ℕ) → Run → ℕ
 run_length distance run = tour_length distance run.best
 
--- what is told of a run
+-- the report of a run
 abbrev pub report_of : (ℕ → ℕ → ℕ) → Run → RunReport
 report_of distance run = record { best = pos (run_length distance run); totals = run.totals }
 
@@ -39,8 +39,8 @@ report_of distance run = record { best = pos (run_length distance run); totals =
 abbrev pub words_of : ℕ → Stream
 words_of seed = stream_of (steps_u32 pcg32) (pcg32_of_seed (pcg32_seed 16 seed))
 
--- t trials of a search one after another, and what is shown of each: what `told` says of its number, from 0, of the
--- length of the tour that it ended with, and of the search after it
+-- t trials of a search, one after another, and the event of each, which `told` makes of the number of the trial,
+-- counted from 0, of the length of the tour that it ended with, and of the search after it
 pub data Trials (told : ℕ → ℤ → Searching → Event) (begun : Searching) (words : Stream) :
     ℕ → List Event → Searching → Stream → Type 0 where
   untried : Trials told begun words 0 [] begun words
@@ -48,7 +48,7 @@ pub data Trials (told : ℕ → ℤ → Searching → Event) (begun : Searching)
       Trials told begun words t shown old left → NextTrial old left new rest report →
       Trials told begun words (t + 1) (shown ++ told t report.descent.after new ∷ []) new rest
 
--- the search of run j, from 0, after its trials from a start, with the words of the seed and j
+-- the search of run j, counted from 0, after its trials from a start, with the random words of the seed plus j
 pub record IsSearched (task : TourTask) (near : NearLists) (j : ℕ) (start : List ℕ) (shown : List Event)
     (ended : Searching) : Type 0 where
   pub begun : Searching
@@ -56,7 +56,7 @@ pub record IsSearched (task : TourTask) (near : NearLists) (j : ℕ) (start : Li
   pub rest : Stream
   pub trials : Trials (trial_event task j) begun (words_of (task.seed + j)) (trials_of task) shown ended rest
 
--- run j, from 0: its trials are shown, and then its report
+-- run j, counted from 0; its events are those of its trials, and then its report
 pub record IsRun (task : TourTask) (near : NearLists) (j : ℕ) (run : Run) : Type 0 where
   pub start : IsStart task near j run.start
   pub tour : IsTour task.size run.start
@@ -67,21 +67,22 @@ pub record IsRun (task : TourTask) (near : NearLists) (j : ℕ) (run : Run) : Ty
   pub totals : run.totals ≡ ended.totals
   pub shown : run.shown ≡ tried ++ Ended (j + 1) (report_of task.distance run) ∷ []
 
--- one after another, from run 0 on
+-- runs one after another, from run 0 on
 pub data AreRuns (task : TourTask) (near : NearLists) : List Run → Type 0 where
   none : AreRuns task near []
   more : {runs : List Run} {run : Run} → AreRuns task near runs → IsRun task near (length runs) run →
       AreRuns task near (runs ++ run ∷ [])
 
--- the best tour of each
+-- the best tour of each run
 abbrev pub best_tours : List Run → List (List ℕ)
 best_tours runs = map (λ run. run.best) runs
 
--- what is shown of all of them
+-- the events of all runs
 abbrev pub shown_of : List Run → List Event
 shown_of runs = flat_map (λ run. run.shown) runs
 
--- what is kept of the runs so far: a report of each, and the best tour of the first one with the least length
+-- the results that are kept of these runs: a report of each, and the shortest of their best tours, the earliest one if
+-- there are several
 pub record AreSoFar (task : TourTask) (near : NearLists) (runs : List Run) (reports : List RunReport) (cities : List ℕ)
     (shortest : ℤ) : Type 0 where
   pub are : AreRuns task near runs

@@ -1,6 +1,6 @@
--- What a search for a tour answers.
---     IsSolved task Watched solved      the best tour of the runs, a report of each, and what is shown of them
---     IsSound task solved      what follows for the tour and the reports, whatever the runs were
+-- The result of a search for a tour.
+--     IsSolved task Watched solved      the best tour of the runs, a report of each, and their events
+--     IsSound task solved      properties of the tour and of the reports, whatever the runs were
 use Rattle.std.specs.Prelude.{◌≡◌, ◌≤ℤ◌, ℕ, ◌-◌, List, All, length, map, min, pos}
 use Rattle.std.specs.Int.RustNames.{unsigned_abs}
 use Rattle.tk_near.specs.Near.{NearLists}
@@ -14,8 +14,8 @@ use Rattle.tk_solve.specs.Events.{Event}
 use Rattle.tk_solve.specs.Runs.{Run, AreRuns, best_tours, report_of, shown_of}
 use Rattle.tk_solve.specs.Starts.{TourTask, AreCandidates}
 
--- the runs that were asked for, each with its report, and the best tour of the first one with the least length, in
--- printed form; the trials of each run were watched, and its end, in order, and nothing else
+-- the requested runs, each with its report, and the shortest of their best tours, the earliest one if there are
+-- several, in canonical form; the events satisfy Watched: the trials of each run and its end, in order, and no others
 pub record IsSolved (task : TourTask) (Watched : List Event → Type 0) (solved : SolvedTour) : Type 0 where
   pub near : NearLists
   pub candidates : AreCandidates task near
@@ -34,8 +34,8 @@ abbrev pub IsBoundedReport : TourTask → RunReport → Type 0
 IsBoundedReport task report =
     IsBounded task.size (min task.candidates (task.size - 1)) task.rules (unsigned_abs report.best) report.totals
 
--- a tour of the cities, which is as short as the best of each run, and not longer than any start; and the work of each
--- run is bounded
+-- a tour of the cities that is not longer than the best tour and the start of each run; and the work of each run is
+-- bounded
 pub record IsSound (task : TourTask) (solved : SolvedTour) : Type 0 where
   pub tour : IsTour task.size solved.cities.items
   pub least : All (λ r. solved.length ≤ℤ r.best) solved.runs.items

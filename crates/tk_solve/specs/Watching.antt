@@ -1,15 +1,15 @@
--- What a watcher of a search is shown.
---     trial_event task j t length search      trial t of run j, both from 0
---     IsShownTour task event      a tour that is shown is one
---     WereShown shows old new shown      these were shown to a watcher, one after another, and nothing else
+-- The events that an observer of a search is shown.
+--     trial_event task j t length search      the event of trial t of run j, both counted from 0
+--     IsShownTour task event      a tour that is shown is a tour of the cities, with its length
+--     WereShown shows old new shown      an observer was shown these events, one after another, and no others
 use Rattle.std.specs.Prelude.{◌≡◌, ℕ, ℤ, ◌+◌, List, [], ◌∷◌, ◌++◌, pos}
 use Rattle.tk_tour.specs.Tour.{IsTour, tour_length}
 use Rattle.tk_search.specs.Searching.{Searching}
 use Rattle.tk_solve.specs.Events.{Event, Begun, Tried, Ended}
 use Rattle.tk_solve.specs.Starts.{TourTask, trials_of}
 
--- what is shown of trial t of run j, both from 0: the length of the tour that it ended with, and the best tour of the
--- search after it, with its length
+-- the event of trial t of run j, both counted from 0: the length of the tour that it ended with, and the best tour of
+-- the search after it, with its length
 abbrev pub trial_event : TourTask → ℕ → ℕ → ℤ → Searching → Event
 trial_event task j t length search =
     Tried (record {
@@ -21,14 +21,14 @@ trial_event task j t length search =
       best = pos (tour_length task.distance search.best);
     }) search.best
 
--- a tour that is shown with a trial is one of the cities, and has the length that is shown with it
+-- a tour that is shown with a trial is a tour of the cities, and its length is the one shown with it
 abbrev pub IsShownTour : TourTask → Event → Type 0
 IsShownTour task (Begun name) = Unit {0}
 IsShownTour task (Tried progress best) =
     IsTour task.size best × (progress.best ≡ pos (tour_length task.distance best))
 IsShownTour task (Ended run report) = Unit {0}
 
--- these were shown to a watcher, one after another, and nothing else; `shows` is what it means that it is shown one
+-- an observer was shown these events, one after another, and no others; `shows` is the effect of an event on it
 pub data WereShown {W : Type 0} (shows : W → Event → W → Type 0) (old : W) : W → List Event → Type 0 where
   nothing : WereShown shows old old []
   next : {shown : List Event} {event : Event} {now new : W} → WereShown shows old now shown →

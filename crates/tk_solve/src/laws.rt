@@ -1,7 +1,7 @@
-//! Laws of runs: there is nothing to run.
+//! Laws of runs, as contracts of functions that do nothing.
 ghost use Rattle.tk_solve.specs.RunLaws as laws;
 
-/// A law: each tour that a watcher is shown of runs is a tour of the cities, and has the length that is shown with it.
+/// A law: each tour that an observer of runs is shown is a tour of the cities, and its length is the one shown with it.
 pub fn shown_tours_are_tours()
     ensures { laws.ShownToursAreTours }
 {}

@@ -1,4 +1,4 @@
-//! What `solve` does between reading and writing: the runs of a search for a tour, and the routes of a routing problem.
+//! The search of `solve`, between reading and writing: the runs of a search for a tour, and the routes of a CVRP.
 #![tactic(auto)]
 
 mod laws;

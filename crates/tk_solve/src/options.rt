@@ -1,34 +1,34 @@
-//! What a search is asked for.
+//! The options of a search.
 ghost use Rattle.std.specs.Prelude.{◌≤◌};
 ghost use Rattle.tk_problem.specs.declared.limits.TheConstants.{CANDIDATE_LIMIT};
 
 use tk_search::SearchRules;
 
-/// What a run begins with.
+/// The start of a run.
 #[derive(Clone, Copy)]
 pub enum Start<'a> {
-    /// The nearest-neighbour tour: that of run j, from 0, begins at city 1 + j mod n.
+    /// A nearest-neighbour tour: that of run j, counted from 0, begins at city 1 + j mod n.
     Nearest,
-    /// The tour of the savings merges.
+    /// The tour of the savings algorithm.
     Savings,
     /// This tour.
     Tour(&'a [u32]),
 }
 
-/// What a search for a tour is asked for.
+/// The options of a search for a tour.
 #[derive(Clone, Copy)]
 pub struct TourOptions<'a> {
-    /// What each run begins with.
+    /// The start of each run.
     pub start: Start<'a>,
-    /// How many runs there are: 1 to 10,000.
+    /// The number of runs, 1 to 10,000.
     pub runs: u32,
-    /// How many trials each run has, 1 to 1,000,000. Below 8 cities it has one.
+    /// The number of trials per run, 1 to 1,000,000. With fewer than 8 cities, a run has one trial.
     pub trials: u32,
-    /// What the random numbers begin with: those of run j, from 0, begin with `seed` + j.
+    /// The seed of the random numbers. Run j, counted from 0, uses `seed` + j.
     pub seed: u32,
-    /// The most near cities of each city that are tried: 1 to 100.
+    /// Maximum length of the near lists, 1 to 100.
     pub candidates: u32,
-    /// How the trials descend.
+    /// The rules of the descents in the trials.
     pub rules: SearchRules,
     ghost some_runs: { (1 ≤ runs) × (runs ≤ 10000) },
     ghost some_trials: { (1 ≤ trials) × (trials ≤ 1000000) },
@@ -36,12 +36,12 @@ pub struct TourOptions<'a> {
     ghost segments: { (1 ≤ rules.or_segment) × (rules.or_segment ≤ 3) },
 }
 
-/// What a search for routes is asked for.
+/// The options of a search for routes.
 #[derive(Clone, Copy, PartialEq, Eq, Debug)]
 pub struct RouteOptions {
-    /// The most near nodes of each node that are tried: 1 to 100.
+    /// Maximum length of the near lists, 1 to 100.
     pub candidates: u32,
-    /// The most nodes of a segment that a move takes: 1 to 3.
+    /// Maximum number of nodes in a segment that is moved, 1 to 3.
     pub or_segment: u32,
     ghost some_candidates: { (1 ≤ candidates) × (candidates ≤ CANDIDATE_LIMIT) },
     ghost segments: { (1 ≤ or_segment) × (or_segment ≤ 3) },

@@ -1,4 +1,4 @@
-//! What is kept of the runs so far.
+//! The results that are kept of completed runs.
 ghost use Rattle.std.specs.Prelude.{◌≡◌, ◌≢◌, ◌<ℤ◌, ◌≤ℤ◌, ◌+◌, ◌<◌, ◌++◌, ◌∷◌, [], IfOk, OnOk, length};
 ghost use Rattle.tk_distance.specs.Tables.{table_size};
 ghost use Rattle.tk_tour.specs.ArrayTours.{order_of};
@@ -13,16 +13,17 @@ use tk_near::Near;
 use tk_search::{Search, Totals};
 use tk_tour::{ArrayTour, length};
 
-/// What a run gave.
+/// The report of a run.
 #[derive(Clone, Copy, PartialEq, Eq, Debug)]
 pub struct RunReport {
     /// The length of its best tour.
     pub best: i64,
-    /// What it counted; `start` is the length of the tour that it began with.
+    /// Its counters; `start` is the length of the tour that it began with.
     pub totals: Totals,
 }
 
-/// What is kept of the runs so far: a report of each, and the best tour of the first one with the least length.
+/// The results that are kept of completed runs: a report of each, and the shortest of their best tours; the earliest
+/// one, if there are several.
 #[derive(Drop)]
 pub(crate) struct Outcome {
     pub(crate) reports: Vec<RunReport>,
@@ -36,7 +37,7 @@ impl Outcome {
     ghost use Rattle.tk_solve.specs.Starts.{IsStart, task_of, task_over};
     ghost use Rattle.tk_solve.specs.Watching.{WereShown};
 
-    /// Before the first run.
+    /// No run has been completed.
     pub(crate) fn new(alloc: Global) -> Outcome
         ensures reports { result.reports.items ≡ [] }
     {
@@ -47,7 +48,7 @@ impl Outcome {
         }
     }
 
-    /// Takes note of a run that ended with this search, and answers its report.
+    /// Records a run that ended with this search, and returns its report.
     fn take<M: Metric>(
         &mut self,
         metric: &M,
@@ -81,7 +82,8 @@ impl Outcome {
         Ok(report)
     }
 
-    /// Run j, from 0, from a tour of a metric's cities. The watcher is shown its trials, and its report.
+    /// Makes run j, counted from 0, from a tour of the cities of a metric, and records it. The observer is shown its
+    /// trials, and its report.
     fn add_run_over<M: Metric, W: Watch>(
         &mut self,
         alloc: Global,
@@ -105,7 +107,7 @@ impl Outcome {
         Ok(())
     }
 
-    /// Run j, from 0, from a tour of a table's cities.
+    /// Like `add_run_over`, for the cities of a table.
     pub(crate) fn add_run<W: Watch>(
         &mut self,
         alloc: Global,

@@ -1,4 +1,4 @@
-//! The routes of a routing problem: by savings, and then each by itself.
+//! The routes of a CVRP: constructed by the savings algorithm, and then improved one by one.
 ghost use Rattle.std.specs.Prelude.{IfOk};
 ghost use Rattle.tk_routes.specs.RouteLists.{routes_of};
 ghost use Rattle.tk_routes.specs.Cvrps.{instance_of};
@@ -9,10 +9,10 @@ use std::alloc::{AllocError, Global};
 use tk_near::near_lists;
 use tk_routes::{Cvrp, RouteReport, Routes, improve, savings};
 
-/// Routes of a routing problem: those of the savings merges over its near lists, each then improved by itself.
+/// Routes of a CVRP: those of the savings algorithm over its near lists, each then improved on its own.
 ///
 /// # Errors
-/// `AllocError` where there is no memory for near lists, merges or a descent.
+/// `AllocError` if memory runs out.
 pub fn solve_routes<'a>(
     alloc: Global,
     cvrp: &Cvrp<'a>,

@@ -17,7 +17,7 @@ use tk_near::Near;
 use tk_search::Search;
 use tk_tour::ArrayTour;
 
-/// The search of run j, from 0, after its trials, each of which was shown to the watcher.
+/// The search of run j, counted from 0, after its trials. The observer has been shown each trial.
 pub(crate) fn search_run<'a, M: Metric, W: Watch>(
     alloc: Global,
     metric: &'a M,

@@ -13,7 +13,7 @@ use tk_near::Near;
 use tk_starts::{nearest_tour, savings_tour};
 use tk_tour::ArrayTour;
 
-/// The savings tour of a table's cities, where runs begin with it; else no city.
+/// The savings tour of the cities of a table, if runs begin with it; otherwise an empty list.
 pub(crate) fn savings_start(
     alloc: Global,
     table: &Table<'_>,
@@ -34,7 +34,7 @@ pub(crate) fn savings_start(
     }
 }
 
-/// The tour that every run begins with, where there is one.
+/// The tour that all runs begin with; `None` if each begins with a nearest-neighbour tour of its own.
 pub(crate) fn common_start<'a>(start: Start<'a>, savings: &'a [u32]) -> Option<&'a [u32]>
     ensures { option_map (λ c. c.now) result ≡ common_of savings.now start.entry }
 {
@@ -45,7 +45,8 @@ pub(crate) fn common_start<'a>(start: Start<'a>, savings: &'a [u32]) -> Option<&
     }
 }
 
-/// The tour that run j, from 0, begins with: the common one, or the nearest-neighbour tour from city 1 + j mod n.
+/// The tour that run j, counted from 0, begins with: the common one or, if there is none, the nearest-neighbour tour
+/// from city 1 + j mod n.
 pub(crate) fn start_of(
     alloc: Global,
     table: &Table<'_>,

@@ -18,11 +18,11 @@ use tk_distance::{Metric, Table};
 use tk_near::{Near, near_lists};
 use tk_tour::{ArrayTour, length};
 
-/// What a search for a tour gave.
+/// The result of a search for a tour.
 #[derive(Drop)]
 pub struct SolvedTour {
-    /// The best tour of the first run with the least length, in printed form: from city 1 on, towards the smaller of
-    /// its neighbours.
+    /// The shortest of the best tours of the runs; the earliest one, if there are several. It is in canonical form:
+    /// from city 1, towards the smaller of its neighbours.
     pub cities: Vec<u32>,
     /// Its length.
     pub length: i64,
@@ -30,7 +30,7 @@ pub struct SolvedTour {
     pub runs: Vec<RunReport>,
 }
 
-/// The answer after all runs.
+/// The result after all runs.
 fn solved(alloc: Global, table: &Table<'_>, outcome: Outcome) -> Result<SolvedTour, AllocError>
     requires tour { IsTour (table_size table.now) outcome.cities.items }
     requires cities { 2 ≤ table_size table.now }
@@ -51,7 +51,7 @@ fn solved(alloc: Global, table: &Table<'_>, outcome: Outcome) -> Result<SolvedTo
     })
 }
 
-/// All runs, each from the common start, or from a nearest-neighbour tour of its own where there is none.
+/// Makes all runs. Each begins with the common start or, if there is none, with a nearest-neighbour tour of its own.
 fn run_all<W: Watch>(
     alloc: Global,
     table: &Table<'_>,
@@ -75,12 +75,13 @@ fn run_all<W: Watch>(
     Ok(outcome)
 }
 
-/// Searches for a short tour of a table's cities: `runs` runs, each of `trials` trials. Each trial is shown to `watch`,
-/// in order, with the length of the tour that it ended with and the best tour of its run so far; and each run after its
-/// last trial, with its report. Nothing else is.
+/// Searches for a short tour of the cities of a table: `runs` runs of `trials` trials each, or of one trial each if
+/// there are fewer than 8 cities. `watch` is shown each trial, with the length of the tour that it ended with and the
+/// best tour of its run up to then. It is also shown each run after its last trial, with its report. All this is shown
+/// in order, and nothing else is.
 ///
 /// # Errors
-/// `AllocError` where there is no memory for the near lists, a start, a search or a report.
+/// `AllocError` if memory runs out.
 pub fn solve_tour<W: Watch>(
     alloc: Global,
     table: &Table<'_>,

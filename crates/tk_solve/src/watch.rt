@@ -1,47 +1,47 @@
-//! What a search shows while it runs, to whoever wants to see it.
+//! Observers of a search.
 ghost use Rattle.std.specs.Prelude.{◌≡◌};
 ghost use Rattle.tk_solve.specs.Events.{Begun, Tried, Ended};
 
 use crate::outcome::RunReport;
 
-/// How far a search has come.
+/// The progress of a search.
 #[derive(Clone, Copy, PartialEq, Eq, Debug)]
 pub struct Progress {
-    /// The run, from 1.
+    /// The run, counted from 1.
     pub run: u32,
-    /// How many runs there are.
+    /// The number of runs.
     pub runs: u32,
-    /// The trial of the run, from 1.
+    /// The trial of the run, counted from 1.
     pub trial: u32,
-    /// How many trials the run has.
+    /// The number of trials of the run.
     pub trials: u32,
     /// The length of the tour that the trial ended with.
     pub length: i64,
-    /// The length of the best tour of the run so far.
+    /// The length of the best tour of the run up to then.
     pub best: i64,
 }
 
-/// Something that is told how far a search has come, and what it has found. It has no influence on the search.
+/// An observer, which is notified of the progress and the best tour of a search and has no influence on it.
 pub trait Watch {
     ghost use Rattle.tk_solve.specs.Events.{Event};
 
-    /// What it means that it is shown something, from its state before to its state after.
+    /// The effect of an event on the observer: a relation of its states before and after it.
     ghost shows: { Self → Event → Self → Type 0 };
 
     /// Takes note of the name of the problem, before the first run.
     fn begin(&mut self, name: &[u8])
         ensures { shows self.old (Begun name.now) self.new };
 
-    /// Takes note of a trial, and of the best tour of its run so far.
+    /// Takes note of a trial, and of the best tour of its run up to then.
     fn trial(&mut self, progress: &Progress, best: &[u32])
         ensures { shows self.old (Tried progress.now best.now) self.new };
 
-    /// Takes note of a run that has ended, from 1.
+    /// Takes note of a run that has ended; runs are counted from 1.
     fn end_run(&mut self, run: u32, report: &RunReport)
         ensures { shows self.old (Ended run report.now) self.new };
 }
 
-/// Nobody watches.
+/// An observer that does nothing.
 #[derive(Clone, Copy)]
 pub struct Unwatched;
 
