@@ -1,11 +1,12 @@
--- How engines end. The stages are the same for all: a problem's text is read; the problem must fit the task; where
--- there is a second text it is read, and must fit the problem; the work is done; and what it gives is written.
---     Task      what an engine does, whatever its sources and sinks
---     ReadsProblem, ReadsTour, ReadsSolution, NoText      what a source's text says
---     HasRead value      the same, once it is read
+-- How engines end. The stages are the same for all engines. The problem text is read, and the problem must fit the
+-- task. If there is a second text, it is read, and must fit the problem. Then the work is done, and its output is
+-- written.
+--     Task      the task of an engine, whatever its sources and sinks
+--     ReadsProblem, ReadsTour, ReadsSolution, NoText      the contents of the text of a source
+--     HasRead value      the contents of a text, once it has been read
 --     Ends task Problem Second Writes result      the stage that was reached, and what is known there
---     EndsByProblem      the same, where it depends on the problem what is read as the second text
---     BeforeSecond, UnlessWrite, AtWrite      a fact, at some of the stages
+--     EndsByProblem      like Ends, but the problem decides how the second text is read
+--     BeforeSecond, UnlessWrite, AtWrite      a fact that is true at some of the stages
 use Rattle.std.specs.Prelude.{◌≡◌, ◌≢◌, ℕ, Bool, true, List, Option, Some, None, Result, Ok, Err}
 use Rattle.tk_words.specs.Texts.{Texts, OfSource, IsAnswerWhereTold, IsFaultWhereTold, IsOfSomeText, IsFaultOfSomeText}
 use Rattle.tk_problem_text.specs.Problem.{ProblemIs, problem_texts}
@@ -20,7 +21,7 @@ use Rattle.tk_engines.specs.declared.fault.Fault.TheVariants as faults
 
 -- ---- sources and sinks
 
--- the text of a source says this value, and no read failed
+-- the text of a source contains this value, and no read failed
 pub record IsRead {V S : Type 0} (texts : Texts V TextFault) (source : sources.Ghosts S) (old new : S) (value : V) :
     Type 0 where
   pub answer : IsAnswerWhereTold texts (source.left old) (source.left new) (Ok value)
@@ -34,15 +35,15 @@ pub record IsRefused {V S : Type 0} (texts : Texts V TextFault) (source : source
   pub some_fault : IsFaultOfSomeText texts f
   pub intact : texts.cause f ≢ OfSource → source.broken new ≡ source.broken old
 
--- what is known where a text is read as a value, or is refused
+-- what is known if a text is read as a value, or is rejected
 abbrev pub Reading : Type 0 → Type 1
 Reading V = Result V Fault → Type 0
 
--- what is known where a text is written, or breaks off
+-- what is known if a text is written, or if writing it breaks off
 abbrev pub Writing : Type 0 → Type 1
 Writing T = Result (Unit {0}) WriteFault → T → Type 0
 
--- a source's text was read, or was refused with a fault that the engine wraps so
+-- the text of a source was read, or was rejected with a fault that the engine wraps by `wrap`
 abbrev pub Reads : {V S : Type 0} → Texts V TextFault → (TextFault → Fault) → sources.Ghosts S → S → S → Reading V
 Reads texts wrap source old new (Ok value) = IsRead texts source old new value
 Reads texts wrap source old new (Err fault) = (f : TextFault) × (fault ≡ wrap f) × IsRefused texts source old new f
@@ -56,7 +57,7 @@ ReadsTour = Reads tour_texts faults.Tour
 abbrev pub ReadsSolution : {S : Type 0} → sources.Ghosts S → S → S → Reading Solution
 ReadsSolution = Reads solution_texts faults.Solution
 
--- there is no such text, so nothing is wrong with it
+-- there is no such text, so it has no fault
 abbrev pub NoText : Reading (Unit {0})
 NoText (Ok _) = Unit {0}
 NoText (Err f) = ⊥
@@ -66,38 +67,39 @@ abbrev pub HasRead : {V : Type 0} → V → Reading V
 HasRead v (Ok value) = value ≡ v
 HasRead v (Err f) = ⊥
 
--- a source has what it had, and no read failed
+-- a source still has all of its bytes, and no read failed
 abbrev pub IsUnread : {S : Type 0} → sources.Ghosts S → S → S → Type 0
 IsUnread source old new = (source.left new ≡ source.left old) × (source.broken new ≡ source.broken old)
 
--- a sink has what it had, and no write failed
+-- a sink has taken no byte, and no write failed
 abbrev pub IsUnwritten : {W : Type 0} → sinks.Ghosts W → W → W → Type 0
 IsUnwritten sink old new = (sink.taken new ≡ sink.taken old) × (sink.broken new ≡ sink.broken old)
 
 -- ---- the stages
 
--- what an engine does with a problem, a second text of type B and an answer of type R, and what it writes, of type T
+-- the task of an engine: it takes a problem and a second text of type B, returns an answer of type R, and writes an
+-- output of type T
 pub record Task (B R T : Type 0) : Type 1 where
-  -- what keeps the problem from the task, such as its type or its size
+  -- why the problem does not fit the task, such as its type or its size; None if it fits
   pub misfit : ProblemIs → Option Fault
-  -- what keeps the second text from the problem
+  -- why the second text does not fit the problem; None if it fits
   pub IsClash : ProblemIs → B → Option Fault → Type 0
   -- whether the work takes memory
   pub takes_memory : Bool
-  -- the answer, and what is written
+  -- the answer, and the output
   pub Gives : ProblemIs → B → R → T → Type 0
 
 -- any second text fits the problem
 abbrev pub NoClash : {B : Type 0} → ProblemIs → B → Option Fault → Type 0
 NoClash problem second clash = clash ≡ None
 
--- a problem was read that does not fit
+-- the problem that was read does not fit
 pub record IsMisfit {B R T : Type 0} (task : Task B R T) (Problem : Reading ProblemIs) (f : Fault) : Type 0 where
   pub problem : ProblemIs
   pub is_problem : Problem (Ok problem)
   pub misfit : task.misfit problem ≡ Some f
 
--- a problem was read that fits, and the second text was refused
+-- the problem that was read fits, and the second text was rejected
 pub record IsSecondRefused {B R T : Type 0} (task : Task B R T) (Problem : Reading ProblemIs)
     (Second : ProblemIs → Reading B) (f : Fault) : Type 0 where
   pub problem : ProblemIs
@@ -105,14 +107,14 @@ pub record IsSecondRefused {B R T : Type 0} (task : Task B R T) (Problem : Readi
   pub fits : task.misfit problem ≡ None
   pub refused : Second problem (Err f)
 
--- a problem was read that fits, and so was the second text
+-- the problem that was read fits, and the second text was read
 pub record AreRead {B R T : Type 0} (task : Task B R T) (Problem : Reading ProblemIs) (Second : Reading B)
     (problem : ProblemIs) (second : B) : Type 0 where
   pub is_problem : Problem (Ok problem)
   pub fits : task.misfit problem ≡ None
   pub is_second : Second (Ok second)
 
--- what was read fits, this is the answer to it, and this became of the text that goes with the answer
+-- the texts that were read fit, this is the answer to them, and Written is true of the output with the answer
 pub record IsGiven {B R T : Type 0} (task : Task B R T) (Problem : Reading ProblemIs) (Second : ProblemIs → Reading B)
     (Written : T → Type 0) (answer : R) : Type 0 where
   pub problem : ProblemIs
@@ -123,7 +125,7 @@ pub record IsGiven {B R T : Type 0} (task : Task B R T) (Problem : Reading Probl
   pub gives : task.Gives problem second answer text
   pub written : Written text
 
--- the last stage that was reached, by the fault, and what is known there
+-- the last stage that was reached, according to the fault, and what is known there
 abbrev pub Stopped : {B R T : Type 0} → Task B R T → Reading ProblemIs → (ProblemIs → Reading B) → Writing T → Fault →
     Type 0
 Stopped task Problem Second Writes (faults.Problem f) = Problem (Err (faults.Problem f))
@@ -141,19 +143,19 @@ Stopped {B} task Problem Second Writes faults.NoMemory =
 Stopped {B} {R} task Problem Second Writes (faults.Write f) =
     (answer : R) × IsGiven task Problem Second (Writes (Err f)) answer
 
--- an engine ended with all written, or stopped, where the problem says what is read as the second text
+-- an engine has written its whole output, or has stopped; the problem decides how the second text is read
 abbrev pub EndsByProblem : {B R T : Type 0} → Task B R T → Reading ProblemIs → (ProblemIs → Reading B) → Writing T →
     Result R Fault → Type 0
 EndsByProblem task Problem Second Writes (Ok answer) = IsGiven task Problem Second (Writes (Ok tt)) answer
 EndsByProblem task Problem Second Writes (Err f) = Stopped task Problem Second Writes f
 
--- an engine ended with all written, or stopped
+-- an engine has written its whole output, or has stopped
 abbrev pub Ends : {B R T : Type 0} → Task B R T → Reading ProblemIs → Reading B → Writing T → Result R Fault → Type 0
 Ends task Problem Second Writes result = EndsByProblem task Problem (λ _. Second) Writes result
 
--- ---- a fact, at some of the stages
+-- ---- a fact that is true at some of the stages
 
--- where an engine stopped before the second text
+-- P is true if an engine stopped before the second text
 abbrev pub BeforeSecond : Type 0 → Fault → Type 0
 BeforeSecond P (faults.Problem f) = P
 BeforeSecond P faults.WrongType = P
@@ -162,12 +164,12 @@ BeforeSecond P faults.TooLarge = P
 BeforeSecond P faults.NoPlaces = P
 BeforeSecond P _ = Unit {0}
 
--- where an engine stopped otherwise than by a write
+-- P is true if an engine stopped for a fault other than a write fault
 abbrev pub UnlessWrite : Type 0 → Fault → Type 0
 UnlessWrite P (faults.Write f) = Unit {0}
 UnlessWrite P _ = P
 
--- where an engine stopped at a write
+-- P is true if an engine stopped for a write fault
 abbrev pub AtWrite : Type 0 → Fault → Type 0
 AtWrite P (faults.Write f) = P
 AtWrite P _ = Unit {0}

@@ -13,12 +13,12 @@ use Rattle.tk_engines.specs.declared.fault.Fault.TheVariants.{TooLarge}
 abbrev pub matrix_of : ProblemIs → Format → List ℕ
 matrix_of p format = matrix_text p.name p.n (read_distance p.weights) format
 
--- the TSP of a problem's name and its distances
+-- the TSP with the name and the distances of a problem
 abbrev pub by_distances : ProblemIs → ProblemIs
 by_distances p =
     record { name = p.name; n = p.n; weights = Lower (lower_triangle p.n (read_distance p.weights)); routing = None }
 
--- a text that keeps the limit of texts, and is read as this problem
+-- a text within the length limit, which is read as this problem
 abbrev pub IsReadAs : List ℕ → ProblemIs → Type 0
 IsReadAs text p = IsReadBackAs problem_texts text p
 
@@ -31,7 +31,7 @@ pub record IsMatrixText (format : Format) (p : ProblemIs) (text : List ℕ) : Ty
 abbrev pub too_large : ProblemIs → Option Fault
 too_large p = if nat_lt TABLE_LIMIT p.n then Some TooLarge else None
 
--- the matrix of a problem is written, which takes no memory
+-- the task of writing the matrix of a problem, which takes no memory
 abbrev pub matrix_task : Format → Task (Unit {0}) (Unit {0}) (List ℕ)
 matrix_task format =
     record { misfit = too_large; IsClash = NoClash; takes_memory = false; Gives = λ p _ _. IsMatrixText format p }

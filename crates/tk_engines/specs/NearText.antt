@@ -11,7 +11,7 @@ use Rattle.tk_engines.specs.Engine.{Task, NoClash}
 abbrev pub near_text : NearLists → List ℕ
 near_text v = flat_map (λ c. near_line c (near_of v c)) (range_with_len 1 v.size)
 
--- the near lists of a problem: k cities each, or all others where there are fewer
+-- the near lists of a problem, with k cities each, or all other cities if there are fewer
 pub record IsNearOf (p : ProblemIs) (k : ℕ) (v : NearLists) : Type 0 where
   pub size : v.size ≡ p.n
   pub width : v.width ≡ min k (p.n - 1)
@@ -20,6 +20,6 @@ pub record IsNearOf (p : ProblemIs) (k : ℕ) (v : NearLists) : Type 0 where
 abbrev pub IsNearText : ℕ → ProblemIs → List ℕ → Type 0
 IsNearText k p text = (v : NearLists) × IsNearOf p k v × (text ≡ near_text v)
 
--- the near lists of any problem are written
+-- the task of writing the near lists of a problem, which any problem fits
 abbrev pub near_task : ℕ → Task (Unit {0}) (Unit {0}) (List ℕ)
 near_task k = record { misfit = λ _. None; IsClash = NoClash; takes_memory = true; Gives = λ p _ _. IsNearText k p }

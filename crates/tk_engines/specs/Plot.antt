@@ -1,7 +1,7 @@
--- What `plot` reads, and what it writes.
---     plot_task form given      the task, by how a picture is written, and whether a tour or a solution is given
---     ReadsClaim given      it is read as a tour where the problem has no routing, else as a solution
---     WritesOutput      a picture goes to the one sink, or the line on a fault to the other
+-- The input and the output of `plot`.
+--     plot_task form given      the task, given the format of a picture, and whether there is a second text
+--     ReadsClaim given      the second text is read as a tour if the problem has no routing, otherwise as a solution
+--     WritesOutput      a picture goes to one sink, or the line with a fault to the other
 use Rattle.std.specs.Prelude.{◌≡◌, ℕ, ◌⊎◌, Bool, true, false, List, [], Option, Some, None, Ok, Err, IsSomeAnd}
 use Rattle.std.specs.Prelude.{IfErr, MatchOption, Result, length, option_map, is_some}
 use Rattle.std.specs.Int.RustNames.{unsigned_abs}
@@ -39,16 +39,16 @@ use Rattle.tk_picture.specs.Frames.{IsFrame}
 use Rattle.tk_picture.specs.declared.picture.Form.{Form}
 use Rattle.tk_picture.specs.Pictures.{form_text}
 
--- ---- what is read
+-- ---- input
 
--- nothing, a tour's cities, or routes and their cost
+-- nothing, the cities of a tour, or routes and their cost
 pub data Claim : Type 0 where
   Nothing : Claim
   TourClaim : (cities : List ℕ) → Claim
   RoutesClaim : (solution : Solution) → Claim
 
--- what is given is read as a tour where the problem has no routing, else as a solution; where nothing is given, the
--- source is untouched
+-- the second text is read as a tour if the problem has no routing, otherwise as a solution; if there is no second text,
+-- its source is not read
 abbrev pub ReadsClaim : {S : Type 0} → Bool → sources.Ghosts S → S → S → ProblemIs → Reading Claim
 ReadsClaim given source old new problem (Ok Nothing) = (given ≡ false) × IsUnread source old new
 ReadsClaim given source old new problem (Ok (TourClaim cities)) =
@@ -59,9 +59,9 @@ ReadsClaim given source old new problem (Err f) =
     (given ≡ true) × MatchOption problem.routing (ReadsTour source old new (Err f))
     (λ _. ReadsSolution source old new (Err f))
 
--- ---- what is written
+-- ---- output
 
--- a picture, or the line on the first fault of a tour or of routes
+-- a picture, or the line with the first fault of a tour or of routes
 pub data Output : Type 0 where
   Drawn : (picture : List ℕ) → Output
   Refused : (line : List ℕ) → Output
@@ -70,19 +70,19 @@ abbrev pub places_in : WeightsAre → List Point
 places_in (value.Points kind places) = places
 places_in (value.Lower weights) = []
 
--- no demands without a routing
+-- the demands of the nodes; empty without a routing
 abbrev pub demands_in : Option RoutingIs → List ℕ
 demands_in None = []
 demands_in (Some r) = r.demand
 
--- a picture of a problem in a form: its cities, what is drawn through them, its depot and its demands
+-- a picture of a problem in a format: its cities, the lines through them, its depot and its demands
 pub record IsPicture (form : Form) (p : ProblemIs) (drawing : Drawing) (text : List ℕ) : Type 0 where
   pub frame : Frame
   pub is_frame : IsFrame (places_in p.weights) frame
   pub is : text ≡ form_text form frame (places_in p.weights) p.name drawing (option_map (λ r. r.depot) p.routing)
       (demands_in p.routing)
 
--- a tour is drawn, or refused with the line of its verdict
+-- a tour is drawn, or rejected with the line of its verdict
 abbrev pub IsTourOutput : Form → ProblemIs → List ℕ → Verdict → Output → Type 0
 IsTourOutput form p cities verdicts.Tour (Drawn text) =
     IsPicture form p (ATour cities (tour_length (read_distance p.weights) cities)) text
@@ -90,7 +90,7 @@ IsTourOutput form p cities verdicts.Tour (Refused line) = ⊥
 IsTourOutput form p cities verdict (Drawn text) = ⊥
 IsTourOutput form p cities verdict (Refused line) = line ≡ verdict_line p.n (read_distance p.weights) cities verdict
 
--- routes are drawn, or refused with the line of their verdict
+-- routes are drawn, or rejected with the line of their verdict
 abbrev pub IsRouteOutput : Form → ProblemIs → Instance → List (List ℕ) → RouteVerdict → Output → Type 0
 IsRouteOutput form p i routes (route_verdicts.Valid count cost) (Drawn text) =
     IsPicture form p (SomeRoutes i routes count (unsigned_abs cost)) text
@@ -98,7 +98,7 @@ IsRouteOutput form p i routes (route_verdicts.Valid count cost) (Refused line) =
 IsRouteOutput form p i routes verdict (Drawn text) = ⊥
 IsRouteOutput form p i routes verdict (Refused line) = line ≡ route_verdict_line verdict
 
--- what was plotted is this, with the true verdict on what was claimed
+-- what was drawn, with the true verdict on the tour or the routes
 abbrev pub IsPlot : Form → ProblemIs → Claim → Plotted → Output → Type 0
 IsPlot form p Nothing plotted.Cities (Drawn text) = IsPicture form p Cities text
 IsPlot form p (TourClaim cities) (plotted.Tour verdict) output =
@@ -108,19 +108,19 @@ IsPlot form p (RoutesClaim s) (plotted.Routes verdict) output =
     × IsRouteOutput form p (instance_in p r) s.0 verdict output)
 IsPlot form p _ _ _ = ⊥
 
--- explicit weights give no places
+-- a problem with explicit weights has no points to draw
 abbrev pub without_places : WeightsAre → Option Fault
 without_places (value.Points kind places) = None
 without_places (value.Lower weights) = Some NoPlaces
 
--- only what is given takes memory to check
+-- the task of drawing; only the check of a second text takes memory
 abbrev pub plot_task : Form → Bool → Task Claim Plotted Output
 plot_task form given =
     record { misfit = λ p. without_places p.weights; IsClash = NoClash; takes_memory = given; Gives = IsPlot form }
 
--- two sinks
+-- the two sinks
 module _ {W T : Type 0} (outs : sinks.Ghosts W) (tolds : sinks.Ghosts T) (out out' : W) (told told' : T) where
-  -- a picture goes to the one, a line to the other
+  -- a picture goes to one sink, or a line to the other
   abbrev pub WritesOutput : Writing Output
   WritesOutput r (Drawn picture) =
       Writes outs out out' r picture × IsUnwritten tolds told told'
@@ -131,7 +131,7 @@ module _ {W T : Type 0} (outs : sinks.Ghosts W) (tolds : sinks.Ghosts T) (out ou
   abbrev pub AreUntouched : Type 0
   AreUntouched = IsUnwritten outs out out' × IsUnwritten tolds told told'
 
--- how drawing ends: the two sources and the two sinks before it, and after it
+-- how drawing ends, given the two sources and the two sinks before and after it
 abbrev pub Plots : {P C W T : Type 0} → sources.Ghosts P → sources.Ghosts C → sinks.Ghosts W → sinks.Ghosts T →
     Form → Bool → P × C × W × T → P × C × W × T → Result Plotted Fault → Type 0
 Plots problems claims outs tolds form given (problem, claim, out, told) (problem', claim', out', told') =
@@ -142,9 +142,9 @@ Plots problems claims outs tolds form given (problem, claim, out, told) (problem
 abbrev pub HasFailed : Bool → Bool → Type 0
 HasFailed out told = (out ≡ true) ⊎ (told ≡ true)
 
--- ---- what is known once the problem is read
+-- ---- after the problem has been read
 
--- how drawing what is claimed of it ends: the claim's source and the two sinks before it, and after it
+-- how drawing the second text ends, given its source and the two sinks before and after it
 pub record PlotsClaim {C W T : Type 0} (claims : sources.Ghosts C) (outs : sinks.Ghosts W) (tolds : sinks.Ghosts T)
     (form : Form) (problem : ProblemIs) (old new : C × W × T) (result : Result Plotted Fault) : Type 0 where
   pub ends : EndsByProblem (plot_task form true) (HasRead problem) (ReadsClaim true claims old.0 new.0)
@@ -152,11 +152,11 @@ pub record PlotsClaim {C W T : Type 0} (claims : sources.Ghosts C) (outs : sinks
   pub quiet : IfErr result (UnlessWrite (AreUntouched outs tolds old.1 new.1 old.2 new.2))
   pub failed : IfErr result (AtWrite (IsBroken outs new.1 ⊎ IsBroken tolds new.2))
 
--- an output that fits is written, or writing it breaks off
+-- an output that satisfies Fits is written, or writing it breaks off
 abbrev pub WritesSome : {T : Type 0} → (T → Type 0) → (T → Type 0) → Type 0
 WritesSome {T} Fits Written = (output : T) × (Fits output × Written output)
 
--- the view of a problem's cities
+-- a view of the cities of a problem
 pub record IsViewOf (p : ProblemIs) (v : View) : Type 0 where
   pub places : places_of v.places ≡ places_in p.weights
   pub frame : IsFrame (places_of v.places) v.frame

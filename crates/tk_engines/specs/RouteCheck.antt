@@ -1,4 +1,4 @@
--- What a check of routes tells.
+-- The result of a check of routes.
 use Rattle.std.specs.Prelude.{◌≡◌, ℕ, true, List, Option, Some, None, IsSomeAnd, if◌then◌else◌, is_none, Result}
 use Rattle.tk_problem_text.specs.Problem.{ProblemIs}
 use Rattle.tk_lists.specs.Solution.{Solution}
@@ -13,21 +13,21 @@ use Rattle.tk_engines.specs.ReadProblems.{instance_in}
 use Rattle.tk_engines.specs.declared.fault.Fault.{Fault}
 use Rattle.tk_engines.specs.declared.fault.Fault.TheVariants.{WrongType}
 
--- of the problem's routing, the routes and their cost this is the verdict, and its line
+-- the verdict on the routes and their cost, for the problem's routing, and the line with it
 pub record IsRouteCheck (problem : ProblemIs) (solution : Solution) (verdict : RouteVerdict)
     (text : List ℕ) : Type 0 where
   pub right : IsSomeAnd problem.routing (λ r. IsRouteVerdict (instance_in problem r) solution.0 solution.1 verdict)
   pub line : text ≡ route_verdict_line verdict
 
--- routes are those of a problem with a routing
+-- a problem without a routing does not fit
 abbrev pub without_routing : ProblemIs → Option Fault
 without_routing p = if is_none p.routing then Some WrongType else None
 
--- routes are checked against a problem with a routing
+-- the task of checking routes, which any problem with a routing fits
 abbrev pub route_check_task : Task Solution RouteVerdict (List ℕ)
 route_check_task = record { misfit = without_routing; IsClash = NoClash; takes_memory = true; Gives = IsRouteCheck }
 
--- how a check of routes ends: its two sources and its sink before it, and after it
+-- how a check of routes ends, given its two sources and its sink before and after it
 abbrev pub ChecksRoutes : {P S W : Type 0} → sources.Ghosts P → sources.Ghosts S → sinks.Ghosts W → P × S × W →
     P × S × W → Result RouteVerdict Fault → Type 0
 ChecksRoutes problems solutions outs (problem, solution, out) (problem', solution', out') =

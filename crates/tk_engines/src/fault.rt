@@ -5,7 +5,7 @@ use tk_tour::TourFault;
 use tk_words::TextFault;
 use tk_writers::WriteFault;
 
-/// Why an engine stopped. It has written nothing, but for what a write fault tells.
+/// Why an engine stopped. It has written nothing, except for what a write fault reports.
 #[derive(Clone, Copy, Debug, PartialEq, Eq, Error)]
 pub enum Fault {
     /// The problem text has this fault.
@@ -17,25 +17,25 @@ pub enum Fault {
     /// The solution text has this fault.
     #[error("solution text: {0}")]
     Solution(TextFault),
-    /// The tour to begin with is no tour of the problem's cities.
+    /// The initial tour is not a tour of the problem's cities.
     #[error("initial tour: {0}")]
     Initial(TourFault),
-    /// The problem has no routing, and so no routes.
+    /// The problem has no routing: it is not a CVRP.
     #[error("not a CVRP")]
     WrongType,
-    /// The parameters have a key that a problem of this type has no use for.
+    /// The parameters have a key that does not apply to a problem of this type.
     #[error("{0} does not fit the problem's type")]
     NotForType(Key),
-    /// The problem has over 5,000 nodes, too many for a matrix.
+    /// The problem has more than 5,000 nodes, too many for a matrix.
     #[error("too large for a matrix")]
     TooLarge,
     /// The output could not be written.
     #[error("write fault")]
     Write(WriteFault),
-    /// A growth was refused.
+    /// An allocation failed.
     #[error("out of memory")]
     NoMemory,
-    /// The problem has explicit weights in place of coordinates, so its cities have no places.
+    /// The problem has explicit weights and no coordinates, so its cities cannot be drawn.
     #[error("no coordinates")]
     NoPlaces,
 }

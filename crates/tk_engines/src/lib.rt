@@ -1,6 +1,6 @@
 //! The engines of the six subcommands, for any source and sink, and the lines that they write.
 //!
-//! An engine reads all of its texts before it writes a byte. Stopped by another fault than one of writing, it has
+//! An engine reads all of its texts before it writes a byte. If it stops for a fault other than a write fault, it has
 //! written nothing.
 #![tactic(auto)]
 

@@ -1,4 +1,4 @@
-//! The lines that tell verdicts, and those that `solve` prints.
+//! The lines with verdicts, and those that `solve` prints.
 mod labelled;
 pub mod route_line;
 pub mod solve_lines;

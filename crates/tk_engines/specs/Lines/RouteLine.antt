@@ -1,4 +1,4 @@
--- The line that tells a verdict on routes.
+-- The line with a verdict on routes.
 use Rattle.std.specs.Prelude.{ℕ, List, ◌++◌, codes, decimal}
 use Rattle.std.specs.Int.RustNames.{unsigned_abs}
 use Rattle.tk_writers.specs.Written.{line}
@@ -6,7 +6,7 @@ use Rattle.tk_routes.specs.declared.claims.verdict.RouteVerdict.{RouteVerdict}
 use Rattle.tk_routes.specs.declared.claims.verdict.RouteVerdict.TheVariants.{Valid, BadCustomer, ServedTwice}
 use Rattle.tk_routes.specs.declared.claims.verdict.RouteVerdict.TheVariants.{OverCapacity, NotServed, WrongCost}
 
--- there is no fault: how many routes hold a customer, and what they cost
+-- there is no fault: the number of routes that have a customer, and their cost
 abbrev pub valid_line : ℕ → ℕ → List ℕ
 valid_line routes cost = line (decimal routes ++ codes " routes, cost " ++ decimal cost)
 
@@ -14,7 +14,7 @@ abbrev pub wrong_cost_line : ℕ → ℕ → List ℕ
 wrong_cost_line read counted =
     line (codes "wrong cost: " ++ decimal read ++ codes " read, " ++ decimal counted ++ codes " counted")
 
--- the line that tells a verdict on routes
+-- the line with a verdict on routes
 abbrev pub route_verdict_line : RouteVerdict → List ℕ
 route_verdict_line (Valid routes cost) = valid_line routes (unsigned_abs cost)
 route_verdict_line (BadCustomer route number) =

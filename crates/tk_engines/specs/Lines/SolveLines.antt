@@ -1,4 +1,5 @@
--- What `solve` prints: the keys that it does not use, a line for each run or for the routes, and the best length.
+-- The lines that `solve` prints: the keys that it does not use, a line for each run or two for the routes, and the best
+-- length.
 use Rattle.std.specs.Prelude.{ℕ, ◌+◌, List, [], ◌∷◌, ◌++◌, codes, decimal, flat_map, length}
 use Rattle.std.specs.Int.RustNames.{unsigned_abs}
 use Rattle.tk_writers.specs.Written.{line}
@@ -8,16 +9,16 @@ use Rattle.tk_routes.specs.declared.solving.route_report.RouteReport.{RouteRepor
 use Rattle.tk_solve.specs.declared.outcome.RunReport.{RunReport}
 use Rattle.tk_solve.specs.declared.tour.SolvedTour.{SolvedTour}
 
--- a key that is read and not used
+-- a key that is read but not used
 abbrev pub ignored_line : Key → List ℕ
 ignored_line key = line (codes "ignored " ++ keys.key_word key)
 
--- what a descent did
+-- the counts of moves, tests and swaps of descents
 abbrev pub work_of : ℕ → ℕ → ℕ → List ℕ
 work_of moves tests swaps =
     codes ", moves " ++ decimal moves ++ codes ", tests " ++ decimal tests ++ codes ", swaps " ++ decimal swaps
 
--- a run, numbered from 1
+-- the line of a run, numbered from 1
 abbrev pub run_line : ℕ → RunReport → List ℕ
 run_line number report =
     let totals = report.totals in
@@ -25,7 +26,7 @@ run_line number report =
     ++ decimal (unsigned_abs report.best)
     ++ codes ", trials " ++ decimal totals.trials ++ work_of totals.moves totals.tests totals.swaps)
 
--- runs, numbered from a number on
+-- the lines of runs, numbered from this number
 abbrev pub run_lines : ℕ → List RunReport → List ℕ
 run_lines number [] = []
 run_lines number (r ∷ rs) = run_line number r ++ run_lines (number + 1) rs
@@ -33,20 +34,20 @@ run_lines number (r ∷ rs) = run_line number r ++ run_lines (number + 1) rs
 abbrev pub best_line : ℕ → List ℕ
 best_line length = line (codes "best " ++ decimal length)
 
--- for a TSP
+-- all lines for a TSP
 abbrev pub tour_lines : List Key → SolvedTour → List ℕ
 tour_lines ignored solved =
     flat_map ignored_line ignored ++ run_lines 1 solved.runs.items ++ best_line (unsigned_abs solved.length)
 
--- routes by savings: their cost, and how many there are
+-- the routes of the savings algorithm: their cost and their number
 abbrev pub savings_line : ℕ → ℕ → List ℕ
 savings_line cost routes = line (codes "savings " ++ decimal cost ++ codes ", routes " ++ decimal routes)
 
--- improved routes: their cost, and what the descents did
+-- the improved routes: their cost, and the counts of the descents
 abbrev pub improved_line : ℕ → ℕ → ℕ → ℕ → List ℕ
 improved_line cost moves tests swaps = line (codes "improved " ++ decimal cost ++ work_of moves tests swaps)
 
--- for a CVRP, with as many routes
+-- all lines for a CVRP with this number of routes
 abbrev pub route_lines : List Key → ℕ → RouteReport → List ℕ
 route_lines ignored routes report =
     flat_map ignored_line ignored ++ savings_line (unsigned_abs report.before) routes

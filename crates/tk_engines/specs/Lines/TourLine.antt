@@ -1,11 +1,11 @@
--- The line that tells a verdict on a tour.
+-- The line with a verdict on a tour.
 use Rattle.std.specs.Prelude.{ℕ, ◌-◌, List, length, slice_index}
 use Rattle.tk_writers.specs.Written.{tour_line, wrong_count_line, out_of_range_line, repeated_city_line}
 use Rattle.tk_tour.specs.Tour.{tour_length}
 use Rattle.tk_tour.specs.declared.verdict.Verdict.{Verdict}
 use Rattle.tk_tour.specs.declared.verdict.Verdict.TheVariants.{Tour, WrongCount, OutOfRange, RepeatedCity}
 
--- the line that tells a verdict on a list that should be a tour of n cities
+-- the line with a verdict on a list that should be a tour of n cities
 abbrev pub verdict_line : ℕ → (ℕ → ℕ → ℕ) → List ℕ → Verdict → List ℕ
 verdict_line n distance cities Tour = tour_line n (tour_length distance cities)
 verdict_line n distance cities WrongCount = wrong_count_line n (length cities)

@@ -17,7 +17,7 @@ use tk_tour::{Verdict, check};
 use tk_words::Source;
 use tk_writers::Sink;
 
-/// Reads a tour, checks it against a problem, and writes the line on it.
+/// Reads a tour, checks it against a problem, and writes the line with the verdict.
 fn check_tour<T: Source, W: Sink>(
     alloc: Global,
     problem: &Problem,
@@ -43,12 +43,12 @@ fn check_tour<T: Source, W: Sink>(
     }
 }
 
-/// Checks the tour of one text against the problem of another, writes one line on it, and returns the verdict.
+/// Checks the tour of one text against the problem of another, writes the verdict as one line, and returns it.
 ///
 /// Both texts are read before a byte is written.
 ///
 /// # Errors
-/// The fault of either text, of writing, or of memory.
+/// The fault of either text or of a write, or `NoMemory` if memory runs out.
 pub fn check_engine<P: Source, T: Source, W: Sink>(
     alloc: Global,
     problem: &mut P,

@@ -57,7 +57,7 @@ fn matrix_problem<W: Sink>(problem: &Problem, format: Format, out: &mut W) -> Re
 /// The whole text is read before a byte is written.
 ///
 /// # Errors
-/// The fault of the text, of writing, or of memory; `TooLarge` over 5,000 nodes.
+/// The fault of the text, also if memory runs out, or of a write; `TooLarge` for more than 5,000 nodes.
 pub fn matrix_engine<R: Source, W: Sink>(
     alloc: Global,
     problem: &mut R,

@@ -17,7 +17,7 @@ use tk_problem_text::read_problem;
 use tk_words::Source;
 use tk_writers::{Pen, Sink, WriteFault};
 
-/// The near lists of a problem: k cities each, or all others where there are fewer.
+/// The near lists of a problem, with k cities each, or all other cities if there are fewer.
 fn lists_of(alloc: Global, problem: &Problem, k: u32) -> Result<Near, AllocError>
     requires low { 1 ≤ k }
     requires limit { k ≤ CANDIDATE_LIMIT }
@@ -26,7 +26,7 @@ fn lists_of(alloc: Global, problem: &Problem, k: u32) -> Result<Near, AllocError
     near_lists(alloc, &Table::of(problem), k.min(problem.n - 1))
 }
 
-/// Writes the list of each city on a line.
+/// Writes the near list of each city on a line of its own.
 fn put_lists<W: Sink>(pen: &mut Pen<'_, W>, near: &Near)
     ensures { Puts W.Sink pen.old pen.new (near_text near.now) }
 {
@@ -38,7 +38,7 @@ fn put_lists<W: Sink>(pen: &mut Pen<'_, W>, near: &Near)
     }
 }
 
-/// Writes the lists of all cities.
+/// Writes the near lists of all cities.
 fn write_lists<W: Sink>(out: &mut W, near: &Near) -> Result<(), WriteFault>
     requires few { near.now.size ≤ CITY_LIMIT }
     requires narrow { near.now.width ≤ CANDIDATE_LIMIT }
@@ -68,13 +68,13 @@ fn near_problem<W: Sink>(alloc: Global, problem: &Problem, k: u32, out: &mut W) 
     }
 }
 
-/// Writes the near list of each city of a problem: the k nearest others, 1 to 100, or all of them where there are
-/// fewer.
+/// Writes the near list of each city of a problem: its k nearest other cities, or all of them if there are fewer. k is
+/// 1 to 100.
 ///
 /// The whole text is read before a byte is written.
 ///
 /// # Errors
-/// The fault of the text, of writing, or of memory.
+/// The fault of the text or of a write, or `NoMemory` if memory runs out.
 pub fn near_engine<R: Source, W: Sink>(
     alloc: Global,
     problem: &mut R,

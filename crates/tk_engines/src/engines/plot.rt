@@ -1,4 +1,4 @@
-//! The picture of a problem, and of a tour or of routes that fit it.
+//! The picture of a problem, with a tour or routes of it.
 ghost use Rattle.std.specs.Prelude.{◌≡◌, ◌⊎◌, IfErr, IfNone, IfSome, OnErr, None, Some, map, option_map};
 ghost use Rattle.tk_problem_text.specs.ProblemOf.{problem_is};
 ghost use Rattle.tk_writers.specs.Puts.{Writes};
@@ -30,7 +30,7 @@ use tk_tour::{Verdict, check};
 use tk_words::Source;
 use tk_writers::{Sink, WriteFault};
 
-/// The depot of a problem, where it has a routing.
+/// The depot of a problem; `None` for a TSP.
 fn depot_of(problem: &Problem) -> Option<u32>
     ensures value { result ≡ option_map (λ r. r.depot) problem.now.routing }
     ensures known { IfSome result (IsCity problem.now.n) }
@@ -39,7 +39,7 @@ fn depot_of(problem: &Problem) -> Option<u32>
     Some(routing.depot)
 }
 
-/// The demands of a problem's nodes: none where it has no routing.
+/// The demands of the nodes of a problem; empty for a TSP.
 fn demands_of(problem: &Problem) -> &[u32]
     ensures { result.now ≡ demands_in (problem_is problem.now).routing }
 {
@@ -49,7 +49,7 @@ fn demands_of(problem: &Problem) -> &[u32]
     }
 }
 
-/// A view of all cities of a problem: none where they have no places.
+/// A view of all cities of a problem; `None` if they have no coordinates.
 fn view_of(problem: &Problem) -> Option<View<'_>>
     ensures some { IfSome result (IsViewOf (problem_is problem.now)) }
     ensures none { IfNone result (without_places (problem_is problem.now).weights ≡ Some NoPlaces) }
@@ -95,7 +95,7 @@ fn draw<W: Sink>(
     write_picture(out, &picture_of(problem, view, subject), form)
 }
 
-/// Draws a tour, or tells its fault.
+/// Draws a tour, or writes the line with its fault to `told`.
 fn show_tour<W: Sink, T: Sink>(
     out: &mut W,
     told: &mut T,
@@ -120,7 +120,7 @@ fn show_tour<W: Sink, T: Sink>(
     }
 }
 
-/// Draws routes, or tells their fault.
+/// Draws routes, or writes the line with their fault to `told`.
 fn show_routes<W: Sink, T: Sink>(
     out: &mut W,
     told: &mut T,
@@ -154,7 +154,7 @@ fn show_routes<W: Sink, T: Sink>(
     }
 }
 
-/// Reads a tour, and draws it or tells its fault.
+/// Reads a tour, and draws it or writes the line with its fault to `told`.
 fn plot_tour<C: Source, W: Sink, T: Sink>(
     alloc: Global,
     problem: &Problem,
@@ -183,7 +183,7 @@ fn plot_tour<C: Source, W: Sink, T: Sink>(
     }
 }
 
-/// Reads routes, and draws them or tells their fault.
+/// Reads routes, and draws them or writes the line with their fault to `told`.
 fn plot_routes<C: Source, W: Sink, T: Sink>(
     alloc: Global,
     problem: &Problem,
@@ -212,7 +212,7 @@ fn plot_routes<C: Source, W: Sink, T: Sink>(
     }
 }
 
-/// Reads what is claimed of a problem, and draws it or tells its fault.
+/// Reads a tour or routes of a problem, and draws them or writes the line with their fault to `told`.
 fn plot_claim<C: Source, W: Sink, T: Sink>(
     alloc: Global,
     problem: &Problem,
@@ -232,7 +232,8 @@ fn plot_claim<C: Source, W: Sink, T: Sink>(
     }
 }
 
-/// Draws a problem, and what is claimed of it, or tells the fault of that.
+/// Draws a problem, with the tour or the routes of another text if there is one, or writes the line with their fault to
+/// `told`.
 fn plot_problem<C: Source, W: Sink, T: Sink>(
     alloc: Global,
     problem: &Problem,
@@ -261,14 +262,15 @@ fn plot_problem<C: Source, W: Sink, T: Sink>(
     plot_claim(alloc, problem, view, claim, form, out, told)
 }
 
-/// Draws the cities of a problem, and if `has_claim` is true, the tour or the routes of another text. They are checked
-/// first: where they have a fault, `told` gets the line on it, and `out` gets nothing.
+/// Draws the cities of a problem and, if `has_claim` is true, the tour or the routes of another text. These are checked
+/// first: if they have a fault, `told` gets the line with it, and `out` gets nothing.
 ///
-/// The picture is written in a form: as an SVG, or within a page (HTML). All texts are read before a byte is written.
-/// The other text is read as a solution where the problem has a routing, else as a tour.
+/// The picture is written in a format: as an SVG, or within an HTML page. All texts are read before a byte is written.
+/// The other text is read as a solution if the problem has a routing, otherwise as a tour.
 ///
 /// # Errors
-/// The fault of either text, of writing, or of memory; `NoPlaces` where the problem has explicit weights.
+/// The fault of either text or of a write, or `NoMemory` if memory runs out; `NoPlaces` if the problem has explicit
+/// weights.
 pub fn plot_engine<P: Source, C: Source, W: Sink, T: Sink>(
     alloc: Global,
     problem: &mut P,

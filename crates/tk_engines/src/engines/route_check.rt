@@ -19,7 +19,7 @@ use tk_routes::{Cvrp, RouteVerdict, check_routes};
 use tk_words::Source;
 use tk_writers::Sink;
 
-/// Reads a solution, checks its routes, and writes the line on them.
+/// Reads a solution, checks its routes, and writes the line with the verdict.
 fn check_solution<S: Source, W: Sink>(
     alloc: Global,
     problem: &Problem,
@@ -46,7 +46,7 @@ fn check_solution<S: Source, W: Sink>(
     }
 }
 
-/// Does the same for a problem, unless it has no routing.
+/// Like `check_solution`, for any problem; `WrongType` if it has no routing.
 fn check_problem<S: Source, W: Sink>(
     alloc: Global,
     problem: &Problem,
@@ -65,12 +65,12 @@ fn check_problem<S: Source, W: Sink>(
     check_solution(alloc, problem, &cvrp, solution, out)
 }
 
-/// Checks the routes of one text against the problem of another, writes one line on them, and returns the verdict.
+/// Checks the routes of one text against the problem of another, writes the verdict as one line, and returns it.
 ///
 /// Both texts are read before a byte is written.
 ///
 /// # Errors
-/// The fault of either text, of writing, or of memory; `WrongType` where the problem has no routing.
+/// The fault of either text or of a write, or `NoMemory` if memory runs out; `WrongType` if the problem has no routing.
 pub fn route_check_engine<P: Source, S: Source, W: Sink>(
     alloc: Global,
     problem: &mut P,

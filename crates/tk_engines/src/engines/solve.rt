@@ -31,7 +31,7 @@ use tk_solve::{RouteOptions, SolvedTour, Watch, solve_routes, solve_tour};
 use tk_words::Source;
 use tk_writers::{Sink, WriteFault, write_solution, write_tour};
 
-/// The best tour of a TSP. The watcher is shown the problem's name, and then the runs.
+/// The best tour of a TSP. The observer is shown the name of the problem, and then the runs.
 fn search_tour<V: Watch>(
     alloc: Global,
     params: &Params,
@@ -140,7 +140,7 @@ fn solve_cvrp<F: Sink, W: Sink>(
     }
 }
 
-/// Checks the tour to begin with, where there is one, and searches for a tour or for routes.
+/// Checks the initial tour, if there is one, and searches for a tour or for routes.
 fn solve_from<F: Sink, W: Sink, V: Watch>(
     alloc: Global,
     params: &Params,
@@ -165,7 +165,7 @@ fn solve_from<F: Sink, W: Sink, V: Watch>(
     }
 }
 
-/// Does what parameters ask for of a problem that their keys fit.
+/// Runs the search that parameters specify on a problem; `NotForType` if one of their keys does not apply to it.
 fn solve_problem<I: Source, F: Sink, W: Sink, V: Watch>(
     alloc: Global,
     params: &Params,
@@ -191,18 +191,18 @@ fn solve_problem<I: Source, F: Sink, W: Sink, V: Watch>(
     solve_from(alloc, params, problem, &tour, file, out, watch)
 }
 
-/// Does what parameters ask for: searches for a short tour of a TSP or for short routes of a CVRP. `file` gets the text
-/// of the tour or of the solution, and then `out` the keys that are not used, a line for each run or for the routes,
-/// and the best length.
+/// Runs the search that parameters specify: for a short tour of a TSP, or for short routes of a CVRP. `file` gets the
+/// text of the tour or of the solution. Then `out` gets the keys that are not used, a line for each run or two for the
+/// routes, and the best length.
 ///
-/// `initial` is read where the parameters name an INITIAL_TOUR_FILE. All texts are read before a byte is written.
-/// `watch` is shown the name of the problem, each trial of a search for a tour, with the best tour of its run so far,
-/// and each run after its last trial, in order, and nothing else; of a search for routes nothing.
+/// `initial` is read if the parameters name an INITIAL_TOUR_FILE. All texts are read before a byte is written. In a
+/// search for a tour, `watch` is shown the name of the problem, each trial, with the best tour of its run up to then,
+/// and each run after its last trial, in order, and nothing else. In a search for routes, it is shown nothing.
 ///
 /// # Errors
-/// The fault of the problem text; `NotForType` of a key that the problem's type has no use for; the fault of the text
-/// of the tour to begin with, or `Initial` where it is no tour of the problem's cities; the fault of writing, or of
-/// memory.
+/// The fault of the problem text; `NotForType` for a key that does not apply to the problem's type; the fault of the
+/// text of the initial tour, or `Initial` if it is not a tour of the problem's cities; the fault of a write; or
+/// `NoMemory` if memory runs out.
 pub fn solve_engine<P: Source, I: Source, F: Sink, W: Sink, V: Watch>(
     alloc: Global,
     params: &Params,

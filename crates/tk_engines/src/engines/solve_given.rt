@@ -1,4 +1,4 @@
-//! What `solve` is given: whether its keys fit the problem, the tour to begin with, and the options of the search.
+//! The input of `solve`: a test that its keys apply to the problem, the initial tour, and the options of the search.
 ghost use Rattle.std.specs.Prelude.{◌≡◌, IfOk, IfErr, OnOk, Ok, Err, Some, None, MatchOption};
 ghost use Rattle.std.specs.Prelude.{is_some};
 ghost use Rattle.tk_problem_text.specs.ProblemOf.{problem_is, weights_are};
@@ -17,7 +17,7 @@ use tk_solve::{Start, TourOptions};
 use tk_tour::{TourFault, Verdict, check};
 use tk_words::Source;
 
-/// The first key that a problem of this type has no use for.
+/// The first key that does not apply to a problem of this type, if there is one.
 pub(crate) fn unfit(params: &Params, problem: &Problem) -> Option<Key>
     ensures { result ≡ unfit_key params.now (problem_is problem.now) }
 {
@@ -36,7 +36,7 @@ pub(crate) fn unfit(params: &Params, problem: &Problem) -> Option<Key>
     None
 }
 
-/// The tour to begin with, where the parameters name one. Else its source is left alone.
+/// The initial tour, if the parameters name one; otherwise its source is not read.
 pub(crate) fn read_initial<I: Source>(
     alloc: Global,
     params: &Params,
@@ -56,7 +56,7 @@ pub(crate) fn read_initial<I: Source>(
     }
 }
 
-/// Whether the tour to begin with is one of the problem's cities.
+/// Checks that the initial tour is a tour of the problem's cities.
 fn check_cities(alloc: Global, problem: &Problem, cities: &[u32]) -> Result<(), Fault>
     ensures ok { OnOk result (IsTour problem.now.n cities.now) }
     ensures is { OnOk result (IsInitial (problem_is problem.now) (Some cities.now) None) }
@@ -71,7 +71,7 @@ fn check_cities(alloc: Global, problem: &Problem, cities: &[u32]) -> Result<(), 
     }
 }
 
-/// The same where there may be none.
+/// Like `check_cities`, for an initial tour that might be missing.
 pub(crate) fn check_initial(
     alloc: Global,
     problem: &Problem,
@@ -87,7 +87,7 @@ pub(crate) fn check_initial(
     }
 }
 
-/// What the parameters ask of a problem's cities.
+/// The options of a search for a tour of the problem's cities, as the parameters specify them.
 pub(crate) fn options_of<'a>(
     params: &Params,
     problem: &Problem,

@@ -1,11 +1,11 @@
-//! What the lines have in common.
+//! Parts that several lines have.
 ghost use Rattle.std.specs.Prelude.{◌++◌, codes, decimal};
 ghost use Rattle.tk_writers.specs.Pens.{Puts};
 ghost use Rattle.tk_writers.specs.Written.{line};
 
 use tk_writers::{Pen, Sink};
 
-/// Puts a label and its number.
+/// Writes a label and its number.
 pub(crate) fn put_labelled<W: Sink>(pen: &mut Pen<'_, W>, label: &[u8], number: u64)
     ensures { Puts W.Sink pen.old pen.new (label.now ++ decimal number) }
 {
@@ -13,7 +13,7 @@ pub(crate) fn put_labelled<W: Sink>(pen: &mut Pen<'_, W>, label: &[u8], number: 
     pen.put_number(number);
 }
 
-/// Puts the line of a fault at a place of a list, and the number that it is about.
+/// Writes the line of a fault at a position of a list, with the number that it is about.
 pub(crate) fn put_place_line<W: Sink>(pen: &mut Pen<'_, W>, fault: &[u8], place: u64, number: u64)
     ensures { Puts W.Sink pen.old pen.new
         (line (fault.now ++ decimal place ++ codes ": " ++ decimal number)) }

@@ -1,4 +1,4 @@
-//! The line that tells a verdict on routes.
+//! The line with a verdict on routes.
 ghost use Rattle.std.specs.Prelude.{◌++◌, OnErr, decimal};
 ghost use Rattle.tk_writers.specs.Pens.{Puts};
 ghost use Rattle.tk_writers.specs.Puts.{Writes};
@@ -10,7 +10,7 @@ use crate::lines::labelled::{put_labelled, put_place_line};
 use tk_routes::RouteVerdict;
 use tk_writers::{Pen, Sink, WriteFault};
 
-/// Puts the line of routes without a fault.
+/// Writes the line of routes without a fault.
 fn put_valid_line<W: Sink>(pen: &mut Pen<'_, W>, routes: u64, cost: u64)
     ensures { Puts W.Sink pen.old pen.new (valid_line routes cost) }
 {
@@ -19,7 +19,7 @@ fn put_valid_line<W: Sink>(pen: &mut Pen<'_, W>, routes: u64, cost: u64)
     pen.put(b"\n");
 }
 
-/// Puts the line of a fault of a customer.
+/// Writes the line of a fault of a customer.
 fn put_customer_line<W: Sink>(pen: &mut Pen<'_, W>, fault: &[u8], customer: u32)
     ensures { Puts W.Sink pen.old pen.new (line (fault.now ++ decimal customer)) }
 {
@@ -27,7 +27,7 @@ fn put_customer_line<W: Sink>(pen: &mut Pen<'_, W>, fault: &[u8], customer: u32)
     pen.put(b"\n");
 }
 
-/// Puts the line of a cost that is not that of the routes.
+/// Writes the line of a cost that is not that of the routes.
 fn put_cost_line<W: Sink>(pen: &mut Pen<'_, W>, read: u64, counted: u64)
     ensures { Puts W.Sink pen.old pen.new (wrong_cost_line read counted) }
 {
@@ -37,7 +37,7 @@ fn put_cost_line<W: Sink>(pen: &mut Pen<'_, W>, read: u64, counted: u64)
     pen.put(b"\n");
 }
 
-/// Puts the line that tells a verdict on routes.
+/// Writes the line with a verdict on routes to a pen.
 fn put_route_verdict<W: Sink>(pen: &mut Pen<'_, W>, verdict: RouteVerdict)
     ensures { Puts W.Sink pen.old pen.new (route_verdict_line verdict) }
 {
@@ -61,10 +61,10 @@ fn put_route_verdict<W: Sink>(pen: &mut Pen<'_, W>, verdict: RouteVerdict)
     }
 }
 
-/// Writes the line that tells a verdict on routes.
+/// Writes the line with a verdict on routes to a sink.
 ///
 /// # Errors
-/// That a write failed, and how many bytes of the line had gone out by then.
+/// A write failed; the fault contains the number of bytes that were written.
 pub fn write_route_verdict<W: Sink>(out: &mut W, verdict: RouteVerdict) -> Result<(), WriteFault>
     ensures text { Writes W.Sink out.old out.new result (route_verdict_line verdict) }
     ensures failed { OnErr result (IsBroken W.Sink out.new) }

@@ -14,7 +14,7 @@ use tk_routes::RouteReport;
 use tk_solve::{RunReport, SolvedTour};
 use tk_writers::{Pen, Sink, WriteFault};
 
-/// Puts a line for each key that is read and not used.
+/// Writes a line for each key that is read but not used.
 fn put_ignored<W: Sink>(pen: &mut Pen<'_, W>, ignored: &[Key])
     ensures { Puts W.Sink pen.old pen.new (flat_map ignored_line ignored.now) }
 {
@@ -26,7 +26,7 @@ fn put_ignored<W: Sink>(pen: &mut Pen<'_, W>, ignored: &[Key])
     }
 }
 
-/// Puts what descents did.
+/// Writes the counts of moves, tests and swaps of descents.
 fn put_work<W: Sink>(pen: &mut Pen<'_, W>, moves: u128, tests: u128, swaps: u128)
     ensures { Puts W.Sink pen.old pen.new (work_of moves tests swaps) }
 {
@@ -38,7 +38,7 @@ fn put_work<W: Sink>(pen: &mut Pen<'_, W>, moves: u128, tests: u128, swaps: u128
     pen.put_wide(swaps);
 }
 
-/// Puts the line of a run, numbered from 1.
+/// Writes the line of a run, numbered from 1, to a pen.
 fn put_run<W: Sink>(pen: &mut Pen<'_, W>, number: u64, report: &RunReport)
     ensures { Puts W.Sink pen.old pen.new (run_line number report.now) }
 {
@@ -52,7 +52,7 @@ fn put_run<W: Sink>(pen: &mut Pen<'_, W>, number: u64, report: &RunReport)
     pen.put(b"\n");
 }
 
-/// Puts the lines of all runs.
+/// Writes the lines of all runs.
 fn put_runs<W: Sink>(pen: &mut Pen<'_, W>, runs: &[RunReport])
     ensures { Puts W.Sink pen.old pen.new (run_lines 1 runs.now) }
 {
@@ -62,7 +62,7 @@ fn put_runs<W: Sink>(pen: &mut Pen<'_, W>, runs: &[RunReport])
     }
 }
 
-/// Puts the line of the best length.
+/// Writes the line with the best length.
 fn put_best<W: Sink>(pen: &mut Pen<'_, W>, length: u64)
     ensures { Puts W.Sink pen.old pen.new (best_line length) }
 {
@@ -70,7 +70,7 @@ fn put_best<W: Sink>(pen: &mut Pen<'_, W>, length: u64)
     pen.put(b"\n");
 }
 
-/// Puts all lines on the runs of a TSP.
+/// Writes all lines on the runs of a TSP to a pen.
 fn put_tour_lines<W: Sink>(pen: &mut Pen<'_, W>, ignored: &[Key], solved: &SolvedTour)
     ensures { Puts W.Sink pen.old pen.new (tour_lines ignored.now solved.now) }
 {
@@ -79,7 +79,7 @@ fn put_tour_lines<W: Sink>(pen: &mut Pen<'_, W>, ignored: &[Key], solved: &Solve
     put_best(pen, solved.length.unsigned_abs());
 }
 
-/// Puts the line of the routes by savings.
+/// Writes the line of the routes of the savings algorithm.
 fn put_savings<W: Sink>(pen: &mut Pen<'_, W>, cost: u64, routes: u64)
     ensures { Puts W.Sink pen.old pen.new (savings_line cost routes) }
 {
@@ -88,7 +88,7 @@ fn put_savings<W: Sink>(pen: &mut Pen<'_, W>, cost: u64, routes: u64)
     pen.put(b"\n");
 }
 
-/// Puts the line of the improved routes.
+/// Writes the line of the improved routes.
 fn put_improved<W: Sink>(pen: &mut Pen<'_, W>, cost: u64, report: &RouteReport)
     ensures { Puts W.Sink pen.old pen.new
         (improved_line cost report.now.moves report.now.tests report.now.swaps) }
@@ -103,7 +103,7 @@ fn put_improved<W: Sink>(pen: &mut Pen<'_, W>, cost: u64, report: &RouteReport)
     pen.put(b"\n");
 }
 
-/// Puts all lines on the routes of a CVRP, of which there are that many.
+/// Writes all lines on the routes of a CVRP to a pen; `routes` is their number.
 fn put_route_lines<W: Sink>(
     pen: &mut Pen<'_, W>,
     ignored: &[Key],
@@ -118,10 +118,10 @@ fn put_route_lines<W: Sink>(
     put_best(pen, report.after.unsigned_abs());
 }
 
-/// Writes the line of a run, numbered from 1.
+/// Writes the line of a run, numbered from 1, to a sink.
 ///
 /// # Errors
-/// That a write failed, and how many bytes of the line had gone out by then.
+/// A write failed; the fault contains the number of bytes that were written.
 pub fn write_run_line<W: Sink>(
     out: &mut W,
     number: u64,
@@ -135,7 +135,7 @@ pub fn write_run_line<W: Sink>(
     pen.end()
 }
 
-/// Writes the lines on the runs of a TSP.
+/// Writes all lines on the runs of a TSP to a sink.
 pub(crate) fn write_tour_lines<W: Sink>(
     out: &mut W,
     ignored: &[Key],
@@ -151,7 +151,7 @@ pub(crate) fn write_tour_lines<W: Sink>(
     pen.end()
 }
 
-/// Writes the lines on the routes of a CVRP, of which there are that many.
+/// Writes all lines on the routes of a CVRP to a sink; `routes` is their number.
 pub(crate) fn write_route_lines<W: Sink>(
     out: &mut W,
     ignored: &[Key],

@@ -1,4 +1,4 @@
-//! The line that tells a verdict.
+//! The line with a verdict on a tour.
 ghost use Rattle.std.specs.Prelude.{◌≡◌, ◌<◌, ◌≤◌, ◌-◌, ◌++◌, OnErr, codes, decimal, length, slice_index};
 ghost use Rattle.tk_distance.specs.Weights.{problem_distance};
 ghost use Rattle.tk_writers.specs.Pens.{Puts};
@@ -23,7 +23,7 @@ pub fn length_of(problem: &Problem, cities: &[u32]) -> u64
     length(&Table::of(problem), cities).unsigned_abs()
 }
 
-/// Puts the line of a tour.
+/// Writes the line of a tour.
 fn put_tour_line<W: Sink>(pen: &mut Pen<'_, W>, cities: u32, length: u64)
     ensures { Puts W.Sink pen.old pen.new (tour_line cities length) }
 {
@@ -32,7 +32,7 @@ fn put_tour_line<W: Sink>(pen: &mut Pen<'_, W>, cities: u32, length: u64)
     pen.put(b"\n");
 }
 
-/// Puts the line of a list with a wrong count of cities.
+/// Writes the line of a list with a wrong number of cities.
 fn put_count_line<W: Sink>(pen: &mut Pen<'_, W>, wanted: u32, read: usize)
     ensures { Puts W.Sink pen.old pen.new (wrong_count_line wanted read) }
 {
@@ -42,7 +42,7 @@ fn put_count_line<W: Sink>(pen: &mut Pen<'_, W>, wanted: u32, read: usize)
     pen.put(b"\n");
 }
 
-/// Puts the line of a fault of the city at a place, which counts from 1.
+/// Writes the line of a fault of the city at a position, counted from 1.
 fn put_city_line<W: Sink>(pen: &mut Pen<'_, W>, fault: &[u8], cities: &[u32], place: u32)
     requires low { 0 < place }
     requires high { place ≤ length cities.now }
@@ -52,7 +52,7 @@ fn put_city_line<W: Sink>(pen: &mut Pen<'_, W>, fault: &[u8], cities: &[u32], pl
     put_place_line(pen, fault, place as u64, cities[place as usize - 1] as u64);
 }
 
-/// Puts the line that tells a verdict.
+/// Writes the line with a verdict on a tour to a pen.
 fn put_verdict<W: Sink>(pen: &mut Pen<'_, W>, problem: &Problem, cities: &[u32], verdict: Verdict)
     requires { IsVerdict problem.now.n cities.now verdict }
     ensures { Puts W.Sink pen.old pen.new
@@ -70,10 +70,10 @@ fn put_verdict<W: Sink>(pen: &mut Pen<'_, W>, problem: &Problem, cities: &[u32],
     }
 }
 
-/// Writes the line that tells a verdict.
+/// Writes the line with a verdict on a tour to a sink.
 ///
 /// # Errors
-/// That a write failed, and how many bytes of the line had gone out by then.
+/// A write failed; the fault contains the number of bytes that were written.
 pub fn write_verdict<W: Sink>(
     out: &mut W,
     problem: &Problem,
