@@ -1,4 +1,4 @@
--- Examples of problem texts that are refused: what is wrong, and on which line.
+-- Examples of problem texts that are rejected, with their faults and the lines of these.
 use Rattle.std.specs.Prelude.{ℕ, List, [], ◌∷◌, ◌++◌, codes, replicate}
 use Rattle.tk_text.specs.declared.Keyword.TheVariants as words
 use Rattle.tk_text.specs.declared.TextKind.TheVariants as kinds
@@ -129,7 +129,7 @@ routing_faults = (
     ∷ (headed (codes "DEPOT_SECTION\n"), fault 3 kinds.Unsupported)
     ∷ []
 
--- of several faults, the first by place counts, and at one place the first of an order
+-- of several faults, the first one in the text counts, and at the same position the first one in a fixed order
 abbrev pub fault_orders : List (List ℕ × ProblemAnswer)
 fault_orders =
     (codes "TYPE : ATSP\nFOO\n", fault 1 kinds.Unsupported)
@@ -140,18 +140,18 @@ fault_orders =
     ∷ (codes "DIMENSION : 2\nDIMENSION : x\n", fault 2 kinds.Repeated)
     -- TYPE before DIMENSION
     ∷ (codes "DEPOT_SECTION\n", fault 1 (kinds.Missing words.Type))
-    -- Missing before Unsupported, and what is never read before Missing
+    -- Missing before Unsupported, but Unsupported before Missing for a section that is never supported
     ∷ (codes "DIMENSION : 2\nEDGE_WEIGHT_TYPE : ATT\nEDGE_WEIGHT_SECTION\n", fault 3 (kinds.Missing words.Type))
     ∷ (headed (codes "EDGE_WEIGHT_TYPE : ATT\nEDGE_WEIGHT_SECTION\n"), fault 4 (kinds.Missing words.EdgeWeightFormat))
     ∷ (codes "EDGE_DATA_SECTION\n", fault 1 kinds.Unsupported)
     -- Unsupported before OutOfLimit
     ∷ (codes "TYPE : TSP\nDIMENSION : 5001\nDEMAND_SECTION\n", fault 3 kinds.Unsupported)
     ∷ (codes "TYPE : CVRP\nDIMENSION : 5001\nDEMAND_SECTION\n", fault 3 kinds.OutOfLimit)
-    -- TooLong before BadNumber, Truncated before what the number would be, OutOfLimit before NotSymmetric
+    -- TooLong before BadNumber, Truncated before the faults of a number, OutOfLimit before NotSymmetric
     ∷ (plane (replicate 65 120), fault 5 kinds.TooLong)
     ∷ (plane (codes "EOF:"), fault 5 kinds.Truncated)
     ∷ (full_matrix (codes "0 3 5\n-3 0 6\n"), fault 7 kinds.OutOfLimit)
-    -- at the end, in this order: what is missing, then the depot's demand, then the lowest node over the capacity
+    -- at the end, in this order: missing headers and sections, a demand of the depot, the lowest node over the capacity
     ∷ (codes "CAPACITY : 5\n", fault 2 (kinds.Missing words.Type))
     ∷ (codes "TYPE : CVRP\nDIMENSION : 2\n", fault 3 (kinds.Missing words.EdgeWeightType))
     ∷ (codes "TYPE : CVRP\nDIMENSION : 2\nEDGE_WEIGHT_TYPE : ATT\n", fault 4 (kinds.Missing words.NodeCoordSection))
@@ -159,7 +159,7 @@ fault_orders =
     ∷ (routing (codes "DEMAND_SECTION\n1 9\n2 0\nDEPOT_SECTION\n2 -1\n"), fault 13 (kinds.DemandOverCapacity 1))
     ∷ []
 
--- lengths at and over their limits: a header's value, a name, a word, a token
+-- lengths at and over their limits: the value of a header, a name, a word, a token
 abbrev pub length_faults : List (List ℕ × ProblemAnswer)
 length_faults =
     (codes "COMMENT:" ++ replicate 4095 120, fault 1 (kinds.Missing words.Type))
@@ -174,8 +174,8 @@ length_faults =
     ∷ (plane (replicate 65 48), fault 5 kinds.TooLong)
     ∷ []
 
--- numbers at their limits are no fault, so that another is told; explicit weights and routes are for at most 5,000
--- nodes
+-- numbers at their limits are not faults, so another fault is reported; explicit weights and routes are for at most
+-- 5,000 nodes
 abbrev pub at_limits : List (List ℕ × ProblemAnswer)
 at_limits =
     (codes "DIMENSION : 2\n", fault 2 (kinds.Missing words.Type))

@@ -33,7 +33,7 @@ integers =
     ∷ (codes "1:", None)
     ∷ []
 
--- a coordinate, in billionths, or what is wrong with it
+-- a coordinate, in billionths, or its fault
 abbrev pub coordinate_of : List ℕ → Result ℤ TextKind
 coordinate_of bs = limited (decimal_of bs)
 
@@ -48,14 +48,14 @@ coordinates =
     ∷ (codes "1.0e+01", Ok (pos 10000000000))
     ∷ (codes "-2.5E-1", Ok (minus 250000000))
     ∷ (codes "0.123456789", Ok (pos 123456789))
-    -- what is past the ninth place is dropped, towards zero
+    -- digits after the ninth decimal are dropped, towards zero
     ∷ (codes "0.0000000019", Ok (pos 1))
     ∷ (codes "-0.0000000019", Ok (minus 1))
     ∷ (codes "-0.0000000001", Ok (pos 0))
     ∷ (codes "0.9999999999", Ok (pos 999999999))
     ∷ (codes "187e-875", Ok (pos 0))
     ∷ (codes "0e770", Ok (pos 0))
-    -- at most 10^9 in magnitude, once that is dropped
+    -- at most 10^9 in magnitude, after these digits are dropped
     ∷ (codes "1e9", Ok (pos (10 ^ 18)))
     ∷ (codes "-1000000000", Ok (minus 1000000000000000000))
     ∷ (codes "1000000000.0000000009", Ok (pos (10 ^ 18)))

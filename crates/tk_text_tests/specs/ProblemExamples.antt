@@ -1,4 +1,4 @@
--- Examples of problem texts that are accepted, and what their beginnings decide.
+-- Examples of problem texts that are accepted, and of the answers that beginnings of texts decide.
 use Rattle.std.specs.Prelude.{ℕ, ◌*◌, true, false, List, [], ◌∷◌, ◌++◌, Option, Some, None, Result, Ok, Err, pos}
 use Rattle.std.specs.Prelude.{negsuc, codes}
 use Rattle.tk_text.specs.declared.Keyword.TheVariants as words
@@ -13,30 +13,30 @@ use Rattle.tk_text.specs.Problem.{ProblemIs, WeightsAre, Points, Lower, problem_
 abbrev pub ProblemAnswer : Type 0
 ProblemAnswer = Option (Result ProblemIs TextFault)
 
--- what a text says
+-- the answer to a text
 abbrev pub problem_of : List ℕ → ProblemAnswer
 problem_of text = problem_decided true text
 
--- what all texts say that begin so
+-- the answer to all texts that begin with these bytes
 abbrev pub problem_begun : List ℕ → ProblemAnswer
 problem_begun text = problem_decided false text
 
--- a fault on this line; or nothing, since more bytes decide
+-- a fault on this line; or no answer, since more bytes decide it
 abbrev pub fault : ℕ → TextKind → ProblemAnswer
 fault line kind = Some (Err (record { line = line; kind = kind }))
 
 abbrev pub undecided : ProblemAnswer
 undecided = None
 
--- a place of whole coordinates, in billionths
+-- a point with whole coordinates, in billionths
 abbrev pub place : ℕ → ℕ → Point
 place x y = record { x = pos (x * 1000000000); y = pos (y * 1000000000) }
 
--- places in the plane, or weights below the diagonal, for a problem of one tour
+-- a TSP, with points in the plane or weights below the diagonal
 abbrev pub tsp : List ℕ → ℕ → WeightsAre → ProblemAnswer
 tsp name n weights = Some (Ok (record { name = name; n = n; weights = weights; routing = None }))
 
--- the same for routes: a vehicle's capacity, the demands and the depot
+-- a CVRP, which also has the capacity of a vehicle, the demands and the depot
 abbrev pub cvrp : List ℕ → ℕ → WeightsAre → ℕ → List ℕ → ℕ → ProblemAnswer
 cvrp name n weights capacity demand depot =
     Some (Ok (record {
@@ -47,7 +47,7 @@ cvrp name n weights capacity demand depot =
           Some (record { capacity = capacity; demand = demand; depot = depot });
     }))
 
--- two places of a type
+-- a TSP of two points, with this distance type
 abbrev pub two_places : List ℕ → List ℕ
 two_places type =
     codes "TYPE : TSP\nDIMENSION : 2\nEDGE_WEIGHT_TYPE : " ++ type ++ codes "\nNODE_COORD_SECTION\n1 0 0\n2 3 4\n"
@@ -55,7 +55,7 @@ two_places type =
 abbrev pub two_places_are : PlaneKind → ProblemAnswer
 two_places_are kind = tsp (codes "Unnamed") 2 (Points kind (place 0 0 ∷ place 3 4 ∷ []))
 
--- all headers and sections that there are; the coordinates do not count beside explicit weights
+-- all headers and sections that exist; with explicit weights, the coordinates do not count
 abbrev pub everything : List ℕ
 everything =
     codes "NAME : all\nCOMMENT : c\nTYPE : CVRP\nCOMMENT : d\nDIMENSION : 2\nCAPACITY : 3\n"
@@ -75,7 +75,7 @@ problems = (
     ∷ (two_places (codes "MAN_2D"), two_places_are planes.Man2d)
     ∷ (two_places (codes "MAX_2D"), two_places_are planes.Max2d)
     ∷ (two_places (codes "att (pseudo-Euclidean)"), two_places_are planes.Att)
-    -- nodes in any order, numbers in any lines, decimal coordinates
+    -- nodes in any order, numbers on any lines, decimal coordinates
     ∷ (
       codes
           "EDGE_WEIGHT_TYPE: MAX_2D\nDimension 2\n\ttype:tsp\r\nnode_coord_section: 2 .5\n\n-0.0000000019 1\n1e1 2.\n",
@@ -126,19 +126,19 @@ problem_beginnings =
     ∷ (codes "NODE_COORD_SECTION:", fault 1 (kinds.Missing words.Type))
     ∷ (plane (codes ""), undecided)
     ∷ (plane (codes "1 0 0\n"), undecided)
-    -- a number may go on
+    -- a number can continue
     ∷ (plane (codes "1 0 0\n1"), undecided)
     ∷ (plane (codes "1 0 0\n1 "), fault 6 kinds.BadNode)
     ∷ (plane (codes "1 1.2.3"), undecided)
     ∷ (plane (codes "1 1.2.3\t"), fault 5 kinds.BadNumber)
     ∷ (full_matrix (codes "0 3 5\n4"), undecided)
     ∷ (full_matrix (codes "0 3 5\n4\n"), fault 7 (kinds.NotSymmetric 1 2))
-    -- after a section there may be more
+    -- more can follow a section
     ∷ (plane (codes "1 0 0\n2 3 4\n"), undecided)
     ∷ (plane (codes "1 0 0\n2 3 4\nEOF"), undecided)
     ∷ (plane (codes "1 0 0\n2 3 4\nEOF "), two_places_are planes.Euc2d)
     ∷ (plane (codes "1 0 0\n2 3 4 x"), fault 6 kinds.TrailingData)
-    -- a depot's list ends with -1, and may have one more
+    -- the list of a depot ends with -1, and one more -1 can follow
     ∷ (routing (codes "DEPOT_SECTION\n1 2"), undecided)
     ∷ (routing (codes "DEPOT_SECTION\n1 2 "), fault 9 kinds.BadDepot)
     ∷ (routing (codes "DEPOT_SECTION\n1 -1 -"), undecided)

@@ -1,5 +1,5 @@
--- Examples of solution texts: their routes and cost, what is wrong with them and on which line, and what their
--- beginnings decide.
+-- Examples of solution texts: their routes and cost, their faults and the lines of these, and the answers that
+-- beginnings of texts decide.
 use Rattle.std.specs.Prelude.{ℕ, true, false, List, [], ◌∷◌, ◌++◌, Option, Some, None, Result, Ok, Err, pos, codes}
 use Rattle.std.specs.Prelude.{replicate}
 use Rattle.tk_text.specs.declared.Keyword.TheVariants as words
@@ -14,15 +14,15 @@ use Rattle.tk_text.specs.Solution.{solution_texts}
 abbrev pub SolutionAnswer : Type 0
 SolutionAnswer = Option (Result Solution TextFault)
 
--- what a text says
+-- the answer to a text
 abbrev pub solution_of : List ℕ → SolutionAnswer
 solution_of text = solution_decided true text
 
--- what all texts say that begin so
+-- the answer to all texts that begin with these bytes
 abbrev pub solution_begun : List ℕ → SolutionAnswer
 solution_begun text = solution_decided false text
 
--- these routes with this cost; a fault on this line; or nothing, since more bytes decide
+-- these routes with this cost; a fault on this line; or no answer, since more bytes decide it
 abbrev pub routes : List (List ℕ) → ℕ → SolutionAnswer
 routes customers cost = Some (Ok (customers, pos cost))
 
@@ -32,27 +32,27 @@ fault line kind = Some (Err (record { line = line; kind = kind }))
 abbrev pub undecided : SolutionAnswer
 undecided = None
 
--- what a text says of which at most so many bytes are read
+-- the answer to a text of which at most `limit` bytes are read
 abbrev pub solution_within : ℕ × List ℕ → SolutionAnswer
 solution_within (limit, text) = Some (answer_of (record solution_texts { limit = limit }) text)
 
 abbrev pub solutions : List (List ℕ × SolutionAnswer)
 solutions =
     (codes "Route #1: 1 2\nRoute #2: 3 4\nCost 44\n", routes ((1 ∷ 2 ∷ []) ∷ (3 ∷ 4 ∷ []) ∷ []) 44)
-    -- the last line may lack its LF; a route may be empty; there may be none
+    -- the last line can lack its LF; a route can be empty; there can be no routes
     ∷ (codes "Route #1: 3 2 1\nCost 12", routes ((3 ∷ 2 ∷ 1 ∷ []) ∷ []) 12)
     ∷ (codes " Route 0: 3\nRoute #1:\n Route +1:2 1\r\ncost : 18\nEOF\n", routes ((3 ∷ []) ∷ [] ∷ (2 ∷ 1 ∷ []) ∷ []) 18)
     ∷ (codes "Cost 000\n", routes [] 0)
     ∷ (codes "COST:+07\r\n", routes [] 7)
     ∷ (codes "cost\t-0", routes [] 0)
-    -- blanks, signs, numbers that are not used
+    -- blanks, signs, and numbers of routes, which are not used
     ∷ (codes " Route #-3:  1 2\r\n Route#+1: \t5 4 3\ncost : 31 \n", routes ((1 ∷ 2 ∷ []) ∷ (5 ∷ 4 ∷ 3 ∷ []) ∷ []) 31)
     ∷ (codes "route # 1 : 2  3  1 \ncost\t45 \n", routes ((2 ∷ 3 ∷ 1 ∷ []) ∷ []) 45)
     ∷ (
       codes " \t\nRoute#123456789012345678\t:0 4294967295\n\nCost 999999999999999999",
       routes ((0 ∷ 4294967295 ∷ []) ∷ []) 999999999999999999,
     )
-    -- after the cost lines are passed over
+    -- lines after the cost are ignored
     ∷ (codes "Route #1: 1\nCost 12\n\n-1 -1 -1", routes ((1 ∷ []) ∷ []) 12)
     ∷ (codes "Cost 46\nVEHICLES #2: 1", routes [] 46)
     ∷ (codes "Cost 5\nRoutes\nCosts\nEOF\n#Route", routes [] 5)
@@ -70,7 +70,7 @@ solution_faults =
     ∷ (codes "Route #1: 1\n 2 3\nCost 1\n", fault 2 kinds.UnknownKeyword)
     ∷ (codes "-1\nCost 1\n", fault 1 kinds.UnknownKeyword)
     ∷ (replicate 65 65 ++ codes "\n", fault 1 kinds.UnknownKeyword)
-    -- heads of another form
+    -- malformed heads
     ∷ (codes "Route #1 1 2\n", fault 1 kinds.BadNumber)
     ∷ (codes "Route #-3\n:2\n", fault 1 kinds.BadNumber)
     ∷ (codes "Route - 3 2 1\n", fault 1 kinds.BadNumber)
@@ -104,14 +104,14 @@ solution_faults =
 abbrev pub solution_beginnings : List (List ℕ × SolutionAnswer)
 solution_beginnings =
     (codes "", undecided)
-    -- what may still become Route or Cost
+    -- words that can still become Route or Cost
     ∷ (codes " rout", undecided)
     ∷ (codes "Route", undecided)
     ∷ (codes "Routes", fault 1 kinds.UnknownKeyword)
     ∷ (codes "Co ", fault 1 kinds.UnknownKeyword)
     ∷ (codes "x", fault 1 kinds.UnknownKeyword)
     ∷ (codes "#", fault 1 kinds.UnknownKeyword)
-    -- a head that may still be whole
+    -- heads that more bytes can complete
     ∷ (codes "Route ", undecided)
     ∷ (codes "Route #-", undecided)
     ∷ (codes "Route #- ", fault 1 kinds.BadNumber)
@@ -119,7 +119,7 @@ solution_beginnings =
     ∷ (codes "Route #1234567890123456789", fault 1 kinds.BadNumber)
     ∷ (codes "Route #1 ", undecided)
     ∷ (codes "Route #1 x", fault 1 kinds.BadNumber)
-    -- a number counts once it ends
+    -- a number counts only when it has ended
     ∷ (codes "Route #1: 5 x", undecided)
     ∷ (codes "Route #1: 5 x ", fault 1 kinds.BadNumber)
     ∷ (codes "Route #1: " ++ replicate 65 120, fault 1 kinds.TooLong)
@@ -127,7 +127,7 @@ solution_beginnings =
     ∷ (codes "Cost -1", undecided)
     ∷ (codes "Cost -1 ", fault 1 kinds.OutOfLimit)
     ∷ (codes "Cost 1 2", fault 1 kinds.TrailingData)
-    -- after the cost any line may come
+    -- lines with other words can follow the cost
     ∷ (codes "Cost 1\nEOF\n", undecided)
     ∷ (codes "Cost 1\nRoute", undecided)
     ∷ (codes "Cost 1\nRoute:", fault 2 kinds.TrailingData)
@@ -139,7 +139,7 @@ solutions_within =
     ∷ ((5, codes "Cost 1"), fault 1 kinds.TooLong)
     ∷ ((6, codes "Cost 1\n"), fault 1 kinds.TooLong)
     ∷ ((7, codes "Cost 1\nx"), fault 2 kinds.TooLong)
-    -- a fault that the bytes show
+    -- a fault that the bytes contain
     ∷ ((1, codes "Rx"), fault 1 kinds.UnknownKeyword)
     ∷ ((0, codes "Rx"), fault 1 kinds.TooLong)
     ∷ ((7, codes "Cost 1 2"), fault 1 kinds.TrailingData)
@@ -147,7 +147,7 @@ solutions_within =
     ∷ ((5, codes "Cost x 2"), fault 1 kinds.TooLong)
     ∷ []
 
--- what comes after the word Route
+-- the head of a route, given the bytes after the word Route
 abbrev pub heads : List (List ℕ × Head)
 heads =
     (codes " #1: 5", Behind (codes " 5"))
@@ -158,7 +158,7 @@ heads =
     ∷ (codes " #1 2:", Bad)
     ∷ []
 
--- a customer after so many others, of which there may be 1,000,000
+-- a customer after `count` others; 1,000,000 customers are allowed
 abbrev pub customer_after : ℕ × List ℕ → Option Stop
 customer_after (count, bytes) = customer_stop count (record { bytes = bytes; line = 7; whole = true })
 

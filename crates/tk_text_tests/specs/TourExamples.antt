@@ -1,4 +1,5 @@
--- Examples of tour texts: what they list, what is wrong with them and on which line, and what their beginnings decide.
+-- Examples of tour texts: their cities, their faults and the lines of these, and the answers that beginnings of texts
+-- decide.
 use Rattle.std.specs.Prelude.{ℕ, true, false, List, [], ◌∷◌, ◌++◌, Option, Some, None, Result, Ok, Err, codes}
 use Rattle.std.specs.Prelude.{replicate}
 use Rattle.tk_text.specs.declared.Keyword.TheVariants as words
@@ -12,15 +13,15 @@ use Rattle.tk_text.specs.Tour.{entry_stop, tour_decided, tour_texts}
 abbrev pub TourAnswer : Type 0
 TourAnswer = Option (Result (List ℕ) TextFault)
 
--- what a text says
+-- the answer to a text
 abbrev pub tour_of : List ℕ → TourAnswer
 tour_of text = tour_decided true text
 
--- what all texts say that begin so
+-- the answer to all texts that begin with these bytes
 abbrev pub tour_begun : List ℕ → TourAnswer
 tour_begun text = tour_decided false text
 
--- these cities; a fault on this line; or nothing, since more bytes decide
+-- these cities; a fault on this line; or no answer, since more bytes decide it
 abbrev pub lists : List ℕ → TourAnswer
 lists cities = Some (Ok cities)
 
@@ -30,7 +31,7 @@ fault line kind = Some (Err (record { line = line; kind = kind }))
 abbrev pub undecided : TourAnswer
 undecided = None
 
--- what a text says of which at most so many bytes are read
+-- the answer to a text of which at most `limit` bytes are read
 abbrev pub tour_within : ℕ × List ℕ → TourAnswer
 tour_within (limit, text) = Some (answer_of (record tour_texts { limit = limit }) text)
 
@@ -43,7 +44,7 @@ tours = (
   codes "NAME : p.40.tour\nCOMMENT : Length = 40\nTYPE : TOUR\nDIMENSION : 4\nTOUR_SECTION\n1\n3\n2\n4\n-1\nEOF\n",
   lists (1 ∷ 3 ∷ 2 ∷ 4 ∷ []),
 )
-    -- one -1 more, on any line; the end of the text or EOF in place of -1
+    -- one more -1, on any line; the end of the text or EOF instead of -1
     ∷ (tour (codes "1 2 3 4\n-1\n-1\n"), lists (1 ∷ 2 ∷ 3 ∷ 4 ∷ []))
     ∷ (tour (codes "1 2 -1 -1\nEOF"), lists (1 ∷ 2 ∷ []))
     ∷ (tour (codes "1 2\n-1\n\n -001"), lists (1 ∷ 2 ∷ []))
@@ -61,7 +62,7 @@ tours = (
       lists (2 ∷ 1 ∷ []),
     )
     ∷ (codes "COMMENT\nCOMMENT : x\nTOUR_SECTION\n1 -1\nTYPE : TOUR\n", lists (1 ∷ []))
-    -- whether it is a tour does not matter here
+    -- the reader does not check that the list is a tour
     ∷ (tour (codes "0 4294967295 7 7 -1"), lists (0 ∷ 4294967295 ∷ 7 ∷ 7 ∷ []))
     ∷ []
 
@@ -112,23 +113,23 @@ tour_beginnings =
     (codes "", undecided)
     ∷ (codes "\n ", undecided)
     ∷ (codes "%", fault 1 kinds.TrailingData)
-    -- a word may go on
+    -- a word can continue
     ∷ (codes "FOO", undecided)
     ∷ (codes "FOO ", fault 1 kinds.UnknownKeyword)
     ∷ (replicate 65 65, fault 1 kinds.TooLong)
-    -- a header's value may go on
+    -- the value of a header can continue
     ∷ (codes "TYPE : ATSP", undecided)
     ∷ (codes "TYPE : ATSP ", undecided)
     ∷ (codes "TYPE : ATSP\n", fault 1 kinds.Unsupported)
     ∷ (codes "TYPE : TOUR\nEO", undecided)
     ∷ (codes "TYPE : TOUR\nEOF", undecided)
     ∷ (codes "TYPE : TOUR\nEOF ", fault 2 (kinds.Missing words.TourSection))
-    -- a section word counts once it ends, a number too
+    -- the word of a section, or a number, counts only when it has ended
     ∷ (codes "DEPOT_SECTION:", fault 1 kinds.Unsupported)
     ∷ (tour (codes "1 2x"), undecided)
     ∷ (tour (codes "1 2x "), fault 3 kinds.BadNumber)
     ∷ (tour (replicate 65 48), fault 3 kinds.TooLong)
-    -- after -1 may stand one -1 more
+    -- one more -1 can follow the -1
     ∷ (tour (codes "1 2 -1"), undecided)
     ∷ (tour (codes "1 2 -1\n"), undecided)
     ∷ (tour (codes "1 2 -1\n-"), undecided)
@@ -146,7 +147,7 @@ tour_beginnings =
     ∷ (tour (codes "1 2 EOF "), lists (1 ∷ 2 ∷ []))
     ∷ []
 
--- numbers begin after 25 bytes. Of a text that is too long only what its bytes up to the first too many show counts
+-- the numbers begin after 25 bytes; of a text that is too long, only the bytes up to the first one too many count
 abbrev pub tours_within : List ((ℕ × List ℕ) × TourAnswer)
 tours_within =
     ((31, tour (codes "2 1 -1")), lists (2 ∷ 1 ∷ []))
@@ -155,10 +156,10 @@ tours_within =
     ∷ ((12, tour (codes "2 1 -1")), fault 2 kinds.TooLong)
     ∷ ((11, tour (codes "2 1 -1")), fault 1 kinds.TooLong)
     ∷ ((0, tour (codes "2 1 -1")), fault 1 kinds.TooLong)
-    -- what comes after EOF is not read
+    -- the bytes after EOF are not read
     ∷ ((32, tour (codes "2 1 EOF junk")), lists (2 ∷ 1 ∷ []))
     ∷ ((31, tour (codes "2 1 EOF junk")), fault 3 kinds.TooLong)
-    -- a fault that the bytes show
+    -- a fault that the bytes contain
     ∷ ((28, tour (codes "2 x -1")), fault 3 kinds.BadNumber)
     ∷ ((27, tour (codes "2 x -1")), fault 3 kinds.TooLong)
     ∷ ((11, codes "TYPE : ATSP\n%"), fault 1 kinds.Unsupported)
@@ -171,7 +172,7 @@ tours_within =
     ∷ ((30, tour (codes "1 -1 -1")), fault 3 kinds.TooLong)
     ∷ []
 
--- a number after so many others, of which there may be 1,000,000
+-- a number after `count` others; 1,000,000 numbers are allowed
 abbrev pub entry_after : ℕ × List ℕ → Option Stop
 entry_after (count, bytes) = entry_stop count (record { bytes = bytes; line = 7; whole = true })
 

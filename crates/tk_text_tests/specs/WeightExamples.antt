@@ -6,8 +6,8 @@ use Rattle.tk_text.specs.Lex.{tokens_of}
 use Rattle.tk_text.specs.WeightOrder.{order}
 use Rattle.tk_text.specs.WeightSection.{lower_weights}
 
--- the entries of a matrix of three rows, each as the number of its row and that of its column: 23 is of the second row
--- and the third column
+-- the entries of a matrix with three rows, as the digits of row and column: 23 is in the second row and the third
+-- column
 abbrev pub entries_of_3 : Format → List ℕ
 entries_of_3 f = map (λ p. suc p.row * 10 + suc p.column) (order f 3)
 
@@ -24,11 +24,11 @@ entry_orders =
     ∷ (formats.LowerDiagCol, 11 ∷ 21 ∷ 31 ∷ 22 ∷ 32 ∷ 33 ∷ [])
     ∷ []
 
--- what the numbers of a format say of four cities: the weights of 1-2, 1-3, 2-3, 1-4, 2-4, 3-4
+-- the weights that the numbers of a format give four cities: those of 1-2, 1-3, 2-3, 1-4, 2-4, 3-4
 abbrev pub pair_weights : Format × List ℕ → List ℕ
 pair_weights section = lower_weights 4 section.0 (tokens_of true 1 section.1)
 
--- the same weights, written in each format; on the diagonal stands what counts for nothing
+-- the same weights in each format; the numbers on the diagonal do not count
 abbrev pub weight_lists : List ((Format × List ℕ) × List ℕ)
 weight_lists =
     ((formats.FullMatrix, codes "7 1 2 3  1 -8 4 5  2 4 9 6  3 5 6 0"), 1 ∷ 2 ∷ 4 ∷ 3 ∷ 5 ∷ 6 ∷ [])

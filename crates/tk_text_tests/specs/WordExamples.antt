@@ -38,7 +38,7 @@ keywords =
     ∷ (codes "NODE-COORD-SECTION", None)
     ∷ []
 
--- what comes after a word: blanks and at most one colon are passed over
+-- the bytes after a word; blanks and at most one colon are skipped
 abbrev pub behind_words : List (List ℕ × List ℕ)
 behind_words =
     (codes " : x y", codes " x y")
@@ -57,7 +57,7 @@ trimmed =
     ∷ (codes "", codes "")
     ∷ []
 
--- the first word of a header's value; what comes after it does not count
+-- the first word of the value of a header; the bytes after it do not count
 abbrev pub first_words : List (List ℕ × List ℕ)
 first_words =
     (codes " : EUC_2D (in the plane)", codes "EUC_2D")
@@ -67,7 +67,7 @@ first_words =
     ∷ (codes " : ", codes "")
     ∷ []
 
--- the name that a header gives
+-- the name in the value of a header
 abbrev pub names : List (List ℕ × List ℕ)
 names =
     (codes " : berlin52", codes "berlin52")
@@ -77,7 +77,7 @@ names =
     ∷ (codes "", codes "Unnamed")
     ∷ []
 
--- a token that is EOF, in small letters and with a colon too
+-- a token that is EOF, also in small letters and with a colon
 abbrev pub eof_tokens : List (List ℕ × Bool)
 eof_tokens =
     (codes "EOF", true)
@@ -88,7 +88,7 @@ eof_tokens =
     ∷ (codes "", false)
     ∷ []
 
--- a token that stands for no number, since it is EOF or begins lines
+-- a token that is not read as a number, since it is EOF or another keyword
 abbrev pub word_tokens : List (List ℕ × Bool)
 word_tokens =
     (codes "EOF", true)
@@ -102,7 +102,7 @@ word_tokens =
 abbrev line_is : ℕ → List ℕ → Bool → Line
 line_is number bytes whole = record { number = number; bytes = bytes; whole = whole }
 
--- the lines of a text that has ended (true), or that may go on
+-- the lines of a text that has ended (true), or that can continue (false)
 abbrev pub lines_of : Bool × List ℕ → List Line
 lines_of text = lines text.0 1 text.1
 
@@ -117,7 +117,7 @@ line_lists =
 abbrev token_is : List ℕ → ℕ → Bool → Token
 token_is bytes line whole = record { bytes = bytes; line = line; whole = whole }
 
--- its tokens, of which the last may go on too
+-- its tokens; the last one can continue too
 abbrev pub tokens_in : Bool × List ℕ → List Token
 tokens_in text = tokens (lines_of text)
 

@@ -58,7 +58,7 @@ matrices =
     ∷ (formats.LowerDiagCol, head (codes "LOWER_DIAG_COL") ++ codes "0 3 4\n0 5\n0\nEOF\n")
     ∷ []
 
--- what is written in any format reads as the same weights
+-- the text in each format is read as the same weights
 abbrev pub read_back : Format → ProblemAnswer
 read_back f = problem_of (matrix_of f)
 

@@ -1,6 +1,6 @@
-//! The definitions of the formats, computed at the examples of the tables in `specs/*Examples.antt`.
-//! Each clause says that a definition gives what a table has beside its arguments. The prover
-//! computes it: there is nothing to run.
+//! Tests of the definitions of the formats, by the tables in `specs/*Examples.antt`. Each clause states that a
+//! definition returns the value that a table has next to its argument. The prover computes it; the functions do
+//! nothing.
 ghost use Rattle.tk_text_tests.specs.Examples.{HasTable};
 ghost use Rattle.tk_text_tests.specs.FaultExamples as Faults;
 ghost use Rattle.tk_text.specs.HeaderValues.{name_of};

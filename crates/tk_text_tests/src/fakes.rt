@@ -1,4 +1,4 @@
-//! Sources and sinks for tests: they give or take few bytes at a time, and fail where they are told to.
+//! Sources and sinks for tests: they return or take few bytes at a time, and fail if they are set to.
 mod drip;
 mod fake_sink;
 mod padded;

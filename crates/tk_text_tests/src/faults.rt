@@ -1,10 +1,10 @@
-//! The line that tells a fault.
+//! The messages of faults.
 
 use std::alloc::Global;
 use std::process::Abort;
 use tk_text::{Keyword, TextFault, TextKind};
 
-/// A fault of each kind in line 7 is told by the message beside it.
+/// Checks that a fault of each kind on line 7 has the message next to the kind.
 fn expect_messages(rt: &impl Abort, alloc: Global, rows: &[(TextKind, &str)]) {
     for (kind, message) in rows {
         let fault = TextFault {

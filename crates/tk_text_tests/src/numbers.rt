@@ -1,16 +1,16 @@
-//! Whole numbers and decimals.
+//! Integers and decimals.
 
 use std::process::Abort;
 use tk_text::{TextKind, decimal, integer};
 
-/// Each text is this whole number, or none.
+/// Checks that each text is read as this integer, or as none.
 fn expect_integers(rt: &impl Abort, rows: &[(&[u8], Option<i64>)]) {
     for (text, want) in rows {
         assert!(rt; integer(text) == *want);
     }
 }
 
-/// Each text is this decimal, in units of 10^-9, or has this fault.
+/// Checks that each text is read as this decimal, in units of 10^-9, or has this fault.
 fn expect_decimals(rt: &impl Abort, rows: &[(&[u8], Result<i64, TextKind>)]) {
     for (text, want) in rows {
         assert!(rt; text.len() <= 64);
@@ -18,7 +18,7 @@ fn expect_decimals(rt: &impl Abort, rows: &[(&[u8], Result<i64, TextKind>)]) {
     }
 }
 
-/// Whole numbers, and texts that are none.
+/// Integers, and texts that are not integers.
 #[test]
 fn whole_numbers(rt: HostRuntime) {
     expect_integers(
@@ -46,7 +46,7 @@ fn whole_numbers(rt: HostRuntime) {
     );
 }
 
-/// Whole ones and fractions, digits that are dropped, and exponents.
+/// Decimals with and without a fraction, digits that are dropped, and exponents.
 #[test]
 fn decimals(rt: HostRuntime) {
     expect_decimals(
@@ -82,7 +82,7 @@ fn decimals(rt: HostRuntime) {
     );
 }
 
-/// Decimals beyond the limit, and other texts.
+/// Decimals beyond the limit, and texts that are not decimals.
 #[test]
 fn no_decimals(rt: HostRuntime) {
     expect_decimals(

@@ -1,9 +1,9 @@
-//! Points that are kept as whole numbers until one has a fraction.
+//! Points are stored as whole numbers until one of them has a fraction.
 
 use std::alloc::AllocError;
 use tk_text::{Places, Point, Points};
 
-/// The greatest coordinate, 10^9, in units of 10^-9.
+/// The maximum of a coordinate: 10^9, in units of 10^-9.
 const FAR: i64 = 1_000_000_000_000_000_000;
 
 const ORIGIN: Point = Point { x: 0, y: 0 };
@@ -17,12 +17,12 @@ const FINE: Point = Point { x: 5, y: FAR };
 
 const FINE_LOW: Point = Point { x: -1, y: 0 };
 
-/// Whether the points are kept as whole numbers.
+/// Whether the points are stored as whole numbers.
 fn are_whole(points: &Points) -> bool {
     matches!(points.places(), Places::Whole(..))
 }
 
-/// Whether these are the points, each by itself and in the list of their places.
+/// Whether these are the points, read one by one and from their list of places.
 fn are_three(points: &Points, wanted: &[Point; 3]) -> bool {
     let places = points.places();
     if points.len() != 3 || places.len() != 3 {

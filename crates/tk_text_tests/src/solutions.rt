@@ -21,7 +21,7 @@ fn read_dripping(alloc: Global, text: &[u8], fails: bool) -> Result<SolText, Tex
     read_solution(alloc, &mut source)
 }
 
-/// The answer has these routes and this cost.
+/// Whether the answer has these routes and this cost.
 pub fn is_solution(answer: Result<SolText, TextFault>, routes: &[&[u32]], cost: i64) -> bool {
     match answer {
         Ok(solution) => solution.cost == cost && are_routes(solution.routes.as_slice(), routes),
@@ -48,19 +48,19 @@ fn is_fault(answer: Result<SolText, TextFault>, line: u64, kind: TextKind) -> bo
     }
 }
 
-/// Read at once and byte by byte, the text has these routes and this cost.
+/// Whether the text, read at once and byte by byte, has these routes and this cost.
 fn tells(alloc: Global, text: &[u8], routes: &[&[u32]], cost: i64) -> bool {
     is_solution(read_whole(alloc, text), routes, cost)
         && is_solution(read_dripping(alloc, text, false), routes, cost)
 }
 
-/// Read at once and byte by byte, the text has this fault.
+/// Whether the text, read at once and byte by byte, has this fault.
 fn refuses(alloc: Global, text: &[u8], line: u64, kind: TextKind) -> bool {
     is_fault(read_whole(alloc, text), line, kind)
         && is_fault(read_dripping(alloc, text, false), line, kind)
 }
 
-/// Each text has the fault beside it.
+/// Checks that each text has the fault next to it.
 fn refuse(rt: &impl Abort, alloc: Global, rows: &[(&[u8], u64, TextKind)]) {
     for (text, line, kind) in rows {
         assert!(rt; refuses(alloc, text, *line, *kind));
@@ -111,7 +111,7 @@ fn faults_of_solutions(rt: HostRuntime) {
     );
 }
 
-/// A source that fails is told where the text was not decided before.
+/// The failure of a source is reported if the bytes before it do not decide the answer.
 #[test]
 fn failing_sources_of_solutions(rt: HostRuntime) {
     let rows: &[(&[u8], u64, TextKind)] = &[
@@ -124,13 +124,13 @@ fn failing_sources_of_solutions(rt: HostRuntime) {
     }
 }
 
-/// How many routes a text has, or its fault.
+/// The number of routes of a text, or its fault.
 fn count_routes(alloc: Global, text: &[u8]) -> Result<usize, TextFault> {
     let solution = read_whole(alloc, text)?;
     Ok(solution.routes.len())
 }
 
-/// A text of this line so often and of these last lines has so many routes, or this fault.
+/// Checks that a text of this line, repeated `times` times, and these last lines has this many routes, or this fault.
 fn expect_count(
     rt: &impl Abort,
     alloc: Global,

@@ -1,14 +1,14 @@
-//! Texts that are put together for tests.
+//! Builds texts for tests.
 
 use std::alloc::Global;
 use std::process::Abort;
 
-/// The pieces one after another.
+/// The pieces, one after another.
 pub fn joined(rt: &impl Abort, alloc: Global, pieces: &[&[u8]]) -> Vec<u8> {
     pieces.concat(alloc).expect(rt, "memory for a text")
 }
 
-/// A piece so often, between a first and a last piece.
+/// A piece, repeated `times` times, between a first and a last piece.
 pub fn repeated(
     rt: &impl Abort,
     alloc: Global,

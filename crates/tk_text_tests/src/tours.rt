@@ -30,7 +30,7 @@ fn read_dripping(alloc: Global, text: &[u8], fails: bool) -> Result<TourText, Te
     read_pieces(alloc, text, 1, fails)
 }
 
-/// The answer lists these cities.
+/// Whether the answer lists these cities.
 pub fn is_list(answer: Result<TourText, TextFault>, cities: &[u32]) -> bool {
     match answer {
         Ok(tour) => tour.cities.as_slice() == cities,
@@ -45,35 +45,35 @@ fn is_fault(answer: Result<TourText, TextFault>, line: u64, kind: TextKind) -> b
     }
 }
 
-/// Read at once, byte by byte and in pieces of 7 bytes, the text lists these cities.
+/// Whether the text, read at once, byte by byte and in pieces of 7 bytes, lists these cities.
 fn lists(alloc: Global, text: &[u8], cities: &[u32]) -> bool {
     is_list(read_whole(alloc, text), cities)
         && is_list(read_dripping(alloc, text, false), cities)
         && is_list(read_pieces(alloc, text, 7, false), cities)
 }
 
-/// Read at once, byte by byte and in pieces of 7 bytes, the text has this fault.
+/// Whether the text, read at once, byte by byte and in pieces of 7 bytes, has this fault.
 fn refuses(alloc: Global, text: &[u8], line: u64, kind: TextKind) -> bool {
     is_fault(read_whole(alloc, text), line, kind)
         && is_fault(read_dripping(alloc, text, false), line, kind)
         && is_fault(read_pieces(alloc, text, 7, false), line, kind)
 }
 
-/// Each text lists the cities beside it.
+/// Checks that each text lists the cities next to it.
 fn accept(rt: &impl Abort, alloc: Global, rows: &[(&[u8], &[u32])]) {
     for (text, cities) in rows {
         assert!(rt; lists(alloc, text, cities));
     }
 }
 
-/// Each text has the fault beside it.
+/// Checks that each text has the fault next to it.
 fn refuse(rt: &impl Abort, alloc: Global, rows: &[(&[u8], u64, TextKind)]) {
     for (text, line, kind) in rows {
         assert!(rt; refuses(alloc, text, *line, *kind));
     }
 }
 
-/// Each text has the fault beside it, byte by byte from a source that fails after the last byte.
+/// Checks that each text has the fault next to it, read byte by byte from a source that fails after the last byte.
 fn refuse_failing(rt: &impl Abort, alloc: Global, rows: &[(&[u8], u64, TextKind)]) {
     for (text, line, kind) in rows {
         assert!(rt; is_fault(read_dripping(alloc, text, true), *line, *kind));
@@ -231,7 +231,7 @@ fn faults_of_lines(rt: HostRuntime) {
     );
 }
 
-/// Each line of a word and a value of so many bytes has the fault beside it.
+/// Checks that each line with this word and a value of this many bytes has the fault next to it.
 fn refuse_lines(rt: &impl Abort, alloc: Global, rows: &[(&[u8], usize, u64, TextKind)]) {
     for (word, count, line, kind) in rows {
         let text = repeated(rt, alloc, word, b"x", *count, b"\n");
@@ -254,7 +254,7 @@ fn long_headers(rt: HostRuntime) {
     );
 }
 
-/// Reads a text of so many bytes that is blank after its list of one city.
+/// Reads a text of `len` bytes that is blank after its list of one city.
 fn read_padded(alloc: Global, len: u64) -> Result<TourText, TextFault> {
     let text: &[u8] = b"TYPE : TOUR\nTOUR_SECTION 1\n";
     let blanks = len.saturating_sub(text.len() as u64);
@@ -277,7 +277,7 @@ fn a_text_of_one_byte_more(rt: HostRuntime) {
     );
 }
 
-/// A source is not read past the byte that decides.
+/// A source is not read past the byte that decides the answer.
 #[test]
 fn failing_sources(rt: HostRuntime) {
     let a = rt.alloc();
@@ -304,7 +304,7 @@ fn failing_sources(rt: HostRuntime) {
     );
 }
 
-/// After an ending `-1` a source is read on only while one `-1` more may stand there.
+/// After the `-1` that ends a list, a source is read only as long as one more `-1` can follow.
 #[test]
 fn one_ending_more(rt: HostRuntime) {
     refuse_failing(

@@ -1,4 +1,4 @@
-//! The places of weights in the order of each format.
+//! The cells of weights, in the order of each format.
 
 use std::alloc::Global;
 use std::process::Abort;
@@ -24,7 +24,7 @@ fn indices(rt: HostRuntime) {
     }
 }
 
-/// The weights of so many cities stand at these places.
+/// Checks that the weights of this many cities belong to these cells, in order.
 fn walk(rt: &impl Abort, format: Format, cities: u16, places: &[(u32, u32)]) {
     let mut cursor = WeightCursor::new(format, cities as u32);
     for (row, column) in places {
@@ -86,7 +86,7 @@ fn places_of_each_format(rt: HostRuntime) {
     }
 }
 
-/// Takes the next weight, or passes it on the diagonal.
+/// Takes the next weight, or skips it on the diagonal.
 fn take(rt: &impl Abort, weights: &mut LowerWeights, weight: u32) {
     assert!(rt; !weights.is_done());
     if weights.place().is_diagonal() {
@@ -99,7 +99,7 @@ fn take(rt: &impl Abort, weights: &mut LowerWeights, weight: u32) {
     weights.push(weight);
 }
 
-/// Takes these weights up to the last.
+/// Takes these weights, and checks that no more are to come.
 fn take_all(rt: &impl Abort, weights: &mut LowerWeights, written: &[u32]) {
     for weight in written {
         take(rt, weights, *weight);
@@ -107,7 +107,7 @@ fn take_all(rt: &impl Abort, weights: &mut LowerWeights, written: &[u32]) {
     assert!(rt; weights.is_done());
 }
 
-/// Of three cities: 7 for the first two, 8 for the first and the last, 9 for the last two.
+/// Checks that these weights of three cities are read as 7 for cities 1 and 2, 8 for 1 and 3, and 9 for 2 and 3.
 fn read(rt: &impl Abort, alloc: Global, format: Format, written: &[u32]) {
     let mut weights = LowerWeights::new(alloc, format, 3).expect(rt, "memory for three weights");
     take_all(rt, &mut weights, written);

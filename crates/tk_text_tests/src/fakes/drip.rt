@@ -1,9 +1,9 @@
-//! A source that gives few bytes at a time, for tests.
+//! A source that returns few bytes at a time, for tests.
 ghost use Rattle.std.specs.Prelude.{None};
 
 use tk_text::{Failed, Source};
 
-/// Gives so many bytes at a time, and then fails where it is told to.
+/// Returns at most `most` bytes at a time. After its last byte, it fails if `fails` is true.
 #[derive(Drop)]
 pub struct Drip<'a> {
     pub bytes: &'a [u8],

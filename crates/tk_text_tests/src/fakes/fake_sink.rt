@@ -3,10 +3,11 @@ ghost use Rattle.std.specs.Prelude.{◌≡◌, ◌≤◌, None, false, take};
 
 use tk_text::{Failed, Sink};
 
-/// How many bytes it can hold.
+/// The capacity of a sink, in bytes.
 pub const ROOM: usize = 512;
 
-/// Takes at most 7 bytes a call, `limit` in all, and then fails: with an error, or by taking none.
+/// Takes at most 7 bytes per call and `limit` bytes in all, but no more than `ROOM`. Then it fails: with an error if
+/// `errs` is true, otherwise by taking no byte.
 #[derive(Drop)]
 pub struct FakeSink {
     pub bytes: [u8; ROOM],
@@ -18,7 +19,7 @@ pub struct FakeSink {
 }
 
 impl FakeSink {
-    /// Before the first byte.
+    /// A sink that has taken no byte.
     pub fn new(limit: usize, errs: bool) -> FakeSink
         ensures empty { (result.len ≡ 0) × (result.failed ≡ false) }
         ensures set { (result.limit ≡ limit) × (result.errs ≡ errs) }
@@ -32,7 +33,7 @@ impl FakeSink {
         }
     }
 
-    /// The bytes that it took.
+    /// The bytes that it has taken.
     pub fn taken(&self) -> &[u8]
         ensures { result.now ≡ take self.now.len self.now.bytes }
     {

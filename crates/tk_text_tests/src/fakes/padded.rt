@@ -3,7 +3,7 @@ ghost use Rattle.std.specs.Prelude.{None, false};
 
 use tk_text::{Failed, Source};
 
-/// Gives a text's bytes, and then so many blanks.
+/// Returns the bytes of a text, followed by this many blanks.
 #[derive(Drop)]
 pub struct Padded<'a> {
     pub text: &'a [u8],

@@ -1,4 +1,4 @@
-//! Problem texts whose lines and headers are refused.
+//! Problem texts that are rejected for their lines or headers.
 
 use crate::problems::read_both_ways::refuse;
 use crate::texts::repeated;
@@ -178,7 +178,7 @@ fn lines(rt: HostRuntime) {
     );
 }
 
-/// Each line of a word and a value of so many bytes has the fault beside it.
+/// Checks that each line with this word and a value of this many bytes has the fault next to it.
 fn refuse_lines(rt: &impl Abort, alloc: Global, rows: &[(&[u8], usize, u64, TextKind)]) {
     for (word, count, line, kind) in rows {
         let text = repeated(rt, alloc, word, b"x", *count, b"\n");

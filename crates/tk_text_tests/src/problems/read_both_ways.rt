@@ -7,7 +7,7 @@ use std::alloc::Global;
 use std::process::Abort;
 use tk_text::{FromRead, Problem, TextFault, TextKind, read_problem};
 
-/// Reads a text in pieces of so many bytes, from a source that may fail after its last byte.
+/// Reads a text in pieces of at most `most` bytes, from a source that fails after its last byte if `fails` is true.
 fn read_pieces(alloc: Global, text: &[u8], most: usize, fails: bool) -> Result<Problem, TextFault> {
     let mut source = Drip {
         bytes: text,
@@ -18,12 +18,12 @@ fn read_pieces(alloc: Global, text: &[u8], most: usize, fails: bool) -> Result<P
     read_problem(alloc, &mut source)
 }
 
-/// Reads a text byte by byte, from a source that may fail after its last byte.
+/// Reads a text byte by byte, from a source that fails after its last byte if `fails` is true.
 pub fn read_dripping(alloc: Global, text: &[u8], fails: bool) -> Result<Problem, TextFault> {
     read_pieces(alloc, text, 1, fails)
 }
 
-/// Whether a text is read in pieces of so many bytes to the answer of the whole text.
+/// Whether a text that is read in pieces of at most `most` bytes has the same answer as the whole text.
 fn is_read_alike(
     alloc: Global,
     text: &[u8],
@@ -34,7 +34,7 @@ fn is_read_alike(
     is_same(whole, &pieces)
 }
 
-/// Reads a text at once, byte by byte and in pieces of 7 bytes, with equal answers.
+/// Reads a text at once, byte by byte and in pieces of 7 bytes, and checks that the answers are equal.
 pub fn read<A: Abort>(rt: &A, alloc: Global, text: &[u8]) -> Result<Problem, TextFault> {
     let mut source = FromRead::new(text);
     let whole = read_problem(alloc, &mut source);
@@ -43,24 +43,24 @@ pub fn read<A: Abort>(rt: &A, alloc: Global, text: &[u8]) -> Result<Problem, Tex
     whole
 }
 
-/// A fault as it is answered.
+/// A fault, as the error of an answer.
 pub fn fault(line: u64, kind: TextKind) -> Option<TextFault> {
     Some(TextFault { line, kind })
 }
 
-/// Each text has the fault beside it.
+/// Checks that each text has the fault next to it.
 pub fn refuse<A: Abort>(rt: &A, alloc: Global, rows: &[(&[u8], u64, TextKind)]) {
     for (text, line, kind) in rows {
         assert!(rt; read(rt, alloc, text).err() == fault(*line, *kind));
     }
 }
 
-/// The text says this problem.
+/// Checks that the text is read as this problem.
 pub fn accept<A: Abort>(rt: &A, alloc: Global, text: &[u8], wanted: &Told<'_>) {
     assert!(rt; is_accepted(read(rt, alloc, text), wanted));
 }
 
-/// After the same first part, each of these last parts makes a text of this problem.
+/// Checks that the first part, followed by each of the last parts, is read as this problem.
 pub fn accept_each<A: Abort>(
     rt: &A,
     alloc: Global,

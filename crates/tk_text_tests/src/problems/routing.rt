@@ -1,4 +1,4 @@
-//! Problem texts whose demands, depot or routing are refused.
+//! Problem texts that are rejected for their demands, depot or routing.
 
 use crate::problems::read_both_ways::refuse;
 use tk_text::{Keyword, TextKind};

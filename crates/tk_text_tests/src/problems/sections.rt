@@ -1,4 +1,4 @@
-//! Problem texts whose sections are refused.
+//! Problem texts that are rejected for their sections.
 
 use crate::problems::read_both_ways::refuse;
 use tk_text::{Keyword, TextKind};
@@ -334,7 +334,7 @@ fn places(rt: HostRuntime) {
     );
 }
 
-/// Three cities: with a fourth, with two sizes, without a size, and with a city that comes twice.
+/// Texts of three cities: with a fourth one, with two sizes, without a size, and with a repeated city.
 #[test]
 fn contradictions(rt: HostRuntime) {
     let a = rt.alloc();

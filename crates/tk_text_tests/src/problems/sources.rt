@@ -7,12 +7,12 @@ use tk_text::{TextFault, TextKind};
 const TEXT: &[u8] =
     b"NAME : p\nTYPE : TSP\nDIMENSION : 3\nEDGE_WEIGHT_TYPE : EUC_2D\nNODE_COORD_SECTION\n1 0 0\n2 3 0\n3 0 4\nEOF\n";
 
-/// Whether a text is read, byte by byte from a source that fails after its last byte, to this fault or none.
+/// Whether a text has this fault, or none, if it is read byte by byte from a source that fails after its last byte.
 fn is_read_so(alloc: Global, text: &[u8], wanted: Option<TextFault>) -> bool {
     read_dripping(alloc, text, true).err() == wanted
 }
 
-/// Whether a text is read so to a fault of the source.
+/// Whether the fault of a text is the failure of its source, if it is read like that.
 fn is_failed_read(alloc: Global, text: &[u8]) -> bool {
     match read_dripping(alloc, text, true).err() {
         Some(fault) => fault.kind == TextKind::Read,
@@ -20,7 +20,7 @@ fn is_failed_read(alloc: Global, text: &[u8]) -> bool {
     }
 }
 
-/// After what decides, a source is not read.
+/// A source is not read past the bytes that decide the answer.
 #[test]
 fn failing_sources(rt: HostRuntime) {
     let a = rt.alloc();

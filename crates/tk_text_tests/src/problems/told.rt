@@ -1,8 +1,8 @@
-//! What problems say, and whether two say the same.
+//! The contents of problems, and whether two problems have the same contents.
 
 use tk_text::{Places, PlaneKind, Problem, Routing, Weights};
 
-/// What a problem says.
+/// The contents of a problem.
 #[derive(Drop)]
 pub struct Told<'a> {
     pub name: &'a [u8],
@@ -12,14 +12,14 @@ pub struct Told<'a> {
     pub routing: Option<(u32, &'a [u32], u32)>,
 }
 
-/// Places of a kind of the plane, or the weights below the diagonal.
+/// Points with a type of plane distances, or the weights below the diagonal.
 #[derive(Drop)]
 pub enum ToldWeights<'a> {
     Points(PlaneKind, Places<'a>),
     Lower(&'a [u32]),
 }
 
-/// What this problem says.
+/// The contents of this problem.
 pub fn told_by(problem: &Problem) -> Told<'_> {
     Told {
         name: problem.name.as_slice(),
@@ -43,7 +43,7 @@ fn told_routing(routing: &Option<Routing>) -> Option<(u32, &[u32], u32)> {
     }
 }
 
-/// Whether both say the same problem.
+/// Whether both have the same contents.
 pub fn is_same_problem(left: &Told<'_>, right: &Told<'_>) -> bool {
     left.name == right.name
         && left.n == right.n

@@ -1,4 +1,4 @@
-//! Problem texts that are accepted, and each beginning of some.
+//! Problem texts that are accepted, and all beginnings of some of them.
 
 use crate::problems::read_both_ways::{accept, accept_each, fault, read};
 use crate::problems::told::{Told, ToldWeights};
@@ -6,10 +6,10 @@ use std::alloc::Global;
 use std::process::Abort;
 use tk_text::{Keyword, Places, PlaneKind, Point, TextFault, TextKind};
 
-/// Bytes, and the line and the kind of the fault of a text that ends after any of them, or none.
+/// Bytes, and the line and the kind of the fault of a text that ends after any of them; `None` if there is no fault.
 type Run = (&'static [u8], Option<(u64, TextKind)>);
 
-/// A fault of a table.
+/// The fault of an entry of a table.
 fn listed(answer: &Option<(u64, TextKind)>) -> Option<TextFault> {
     match answer {
         Some((line, kind)) => fault(*line, *kind),
@@ -17,7 +17,7 @@ fn listed(answer: &Option<(u64, TextKind)>) -> Option<TextFault> {
     }
 }
 
-/// Reads the text after each of these bytes that is added to it, with this fault or none.
+/// Adds these bytes to the text one by one, and checks that the text then has this fault, or none.
 fn grow<A: Abort>(
     rt: &A,
     alloc: Global,
@@ -31,14 +31,14 @@ fn grow<A: Abort>(
     }
 }
 
-/// Reads the text after each byte of these runs.
+/// Adds the bytes of these runs to the text one by one, and checks its fault after each.
 fn grow_by<A: Abort>(rt: &A, alloc: Global, text: &mut Vec<u8>, runs: &[Run]) {
     for (bytes, answer) in runs {
         grow(rt, alloc, text, bytes, listed(answer));
     }
 }
 
-/// Reads each beginning of the text of these parts, and returns the text.
+/// Checks each beginning of the text of these parts, and returns the text.
 fn grown<A: Abort>(rt: &A, alloc: Global, parts: &[&[Run]]) -> Vec<u8> {
     let mut text = Vec::new(alloc);
     assert!(rt; read(rt, alloc, &text).err() == fault(1, TextKind::Missing(Keyword::Type)));
@@ -214,7 +214,7 @@ const AFTER_DEMAND: &[Run] = &[
     (b"\n", Some((19, TextKind::Truncated))),
 ];
 
-/// A CVRP whose load fits.
+/// A CVRP whose demands fit.
 const FITTING: &[&[Run]] = &[
     BEFORE_DEMANDS,
     &[(b"\n2 1", Some((14, TextKind::Truncated)))],
@@ -228,7 +228,7 @@ const FITTING: &[&[Run]] = &[
     ],
 ];
 
-/// A CVRP whose load is too great.
+/// A CVRP with a demand that is too large.
 const OVERLOADED: &[&[Run]] = &[
     BEFORE_DEMANDS,
     &[(b"\n2 3", Some((14, TextKind::Truncated)))],
@@ -266,7 +266,7 @@ fn beginnings_of_a_load_too_great(rt: HostRuntime) {
 const EXPLICIT: &[u8] =
     b"TYPE : TSP\nDIMENSION : 4\nEDGE_WEIGHT_TYPE : EXPLICIT\nEDGE_WEIGHT_FORMAT : ";
 
-/// The same with these weights below the diagonal.
+/// The problem of such a text, with these weights below the diagonal.
 fn explicit(lower: &[u32]) -> Told<'_> {
     Told {
         name: b"Unnamed",
@@ -276,7 +276,7 @@ fn explicit(lower: &[u32]) -> Told<'_> {
     }
 }
 
-/// Each format of one table; what stands on its diagonal is not kept.
+/// One table in each format; the numbers on its diagonal are not stored.
 #[test]
 fn formats(rt: HostRuntime) {
     accept_each(
@@ -340,7 +340,8 @@ fn coordinates(rt: HostRuntime) {
     accept(&rt, rt.alloc(), text, &wanted);
 }
 
-/// After the same first part, each last part makes a TSP of the name and the kind beside it, at these two places.
+/// Checks that the first part, followed by each last part, is read as a TSP of these points, with the name and the
+/// distance type next to it.
 fn accept_two<'a>(
     rt: &impl Abort,
     alloc: Global,
@@ -359,7 +360,7 @@ fn accept_two<'a>(
     }
 }
 
-/// The kinds of the plane, in any case.
+/// The types of plane distances, in capital or small letters.
 #[test]
 fn kinds(rt: HostRuntime) {
     let near = Point {
@@ -386,7 +387,7 @@ fn kinds(rt: HostRuntime) {
     );
 }
 
-/// A routing whose depot is not its first node, at each way that its section may end.
+/// A routing whose depot is not its first node, with each ending that its section can have.
 #[test]
 fn depots(rt: HostRuntime) {
     let wanted = Told {
@@ -413,7 +414,7 @@ fn depots(rt: HostRuntime) {
     );
 }
 
-/// Names, and what is not kept.
+/// Names, and contents that are not stored.
 #[test]
 fn names(rt: HostRuntime) {
     accept_two(

@@ -1,10 +1,10 @@
-//! What a sink took of a text.
+//! The part of a text that a sink takes.
 
 use crate::fakes::FakeSink;
 use std::process::Abort;
 use tk_text::{Sink, WriteFault};
 
-/// Whether a writer tells that the whole text went out, or as much as this limit lets out.
+/// Whether a writer reports that the whole text was written, or exactly as much of it as this limit allows.
 fn is_told(told: Result<(), WriteFault>, text: &[u8], limit: usize) -> bool {
     match told {
         Ok(()) => text.len() <= limit,
@@ -12,7 +12,7 @@ fn is_told(told: Result<(), WriteFault>, text: &[u8], limit: usize) -> bool {
     }
 }
 
-/// The sink took the text as far as its limit, and the writer told this.
+/// Checks that the sink took the text up to its limit, and that the writer reported this.
 pub fn expect_taken(rt: &impl Abort, sink: &FakeSink, told: Result<(), WriteFault>, text: &[u8]) {
     let count = text.len().min(sink.limit);
     assert!(rt; is_told(told, text, sink.limit));

@@ -1,4 +1,4 @@
-//! What is written of small tables.
+//! The texts of small tables.
 ghost use Rattle.std.specs.Prelude.{◌≡◌, ◌+◌, ◌-◌, ◌*◌, ◌≤◌, pos, slice_index};
 
 use crate::fakes::{FakeSink, ROOM};
@@ -10,10 +10,10 @@ use std::alloc::Global;
 use std::process::Abort;
 use tk_text::{Format, Sink, WriteFault, write_matrix};
 
-/// Four cities, row by row.
+/// The distances of four cities, row by row.
 const FOUR: [u32; 16] = [0, 1, 2, 3, 1, 0, 4, 5, 2, 4, 0, 6, 3, 5, 6, 0];
 
-/// Three cities at (0, 0), (3, 0) and (0, 4).
+/// The distances of three cities at (0, 0), (3, 0) and (0, 4), row by row.
 const THREE: [u32; 9] = [0, 3, 4, 3, 0, 5, 4, 5, 0];
 
 const THREE_TEXT: &[u8] =
@@ -55,7 +55,7 @@ fn writes_a_lower_triangle_with_its_diagonal(rt: HostRuntime) {
     }
 }
 
-/// The same text is read as its name and the weights below its diagonal.
+/// The text of three cities is read as its name and the weights below its diagonal.
 #[test]
 fn a_matrix_is_read_back(rt: HostRuntime) {
     let wanted = Told {
@@ -74,7 +74,7 @@ const HEAD: &[u8] =
 /// A format, the word for it in a text, and the lines of the weights of four cities.
 type InFormat<'a> = (Format, &'a [u8], &'a [u8]);
 
-/// The table of four cities is written so in each format.
+/// Checks that the table of four cities is written as these lines in each format.
 fn expect_four(rt: &impl Abort, alloc: Global, rows: &[InFormat<'_>]) {
     for (format, word, lines) in rows {
         let text = joined(

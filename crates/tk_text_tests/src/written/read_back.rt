@@ -1,4 +1,4 @@
-//! What is written to memory is read from there as the same value.
+//! Values that are written to memory, and read back from there.
 ghost use Rattle.std.specs.Prelude.{◌≡◌, ◌⊎◌, map, pos, ◌≤ℤ◌, IfOk, IfErr};
 ghost use Rattle.std.specs.Int.RustNames.{unsigned_abs};
 ghost use Rattle.tk_text.specs.ReadBack.{IsSolution, IsTourText};
@@ -13,7 +13,7 @@ use tk_text::{
     write_solution, write_tour,
 };
 
-/// Writes a tour to memory, and reads it from there. Only a lack of memory or a failed read can keep the cities back.
+/// Writes a tour to memory, and reads it back. It has the same cities, unless memory runs out or a read fails.
 fn tour_again(
     alloc: Global,
     name: &[u8],
@@ -32,7 +32,7 @@ fn tour_again(
     Ok(read_tour(alloc, &mut source))
 }
 
-/// The same for routes and their cost.
+/// Like `tour_again`, for routes and their cost.
 fn solution_again(
     alloc: Global,
     routes: &[Vec<u32>],

@@ -1,4 +1,4 @@
-//! What is written of pieces, tours and routes, whole and to sinks that fail.
+//! The texts of pieces, tours and routes, written completely and to sinks that fail.
 
 use crate::fakes::FakeSink;
 use crate::written::limits::expect_taken;
@@ -6,7 +6,7 @@ use crate::written::read_back::two_routes;
 use std::process::Abort;
 use tk_text::{Pen, Sink, ToWrite, WriteFault, write_solution, write_tour};
 
-/// What a pen is given.
+/// A piece that is put into a pen.
 enum Piece {
     Bytes(&'static [u8]),
     Number(u64),
@@ -54,7 +54,7 @@ fn writes_pieces(rt: HostRuntime) {
     }
 }
 
-/// Writes 10,000 times `x`, and `y`.
+/// Writes `x` 10,000 times, and then `y`.
 fn write_long<W: Sink>(sink: &mut W) -> Result<(), WriteFault> {
     let piece = [b'x'; 5000];
     let mut pen = Pen::new(sink);
@@ -64,7 +64,7 @@ fn write_long<W: Sink>(sink: &mut W) -> Result<(), WriteFault> {
     pen.end()
 }
 
-/// There are 10,001 bytes, and the last is `y`.
+/// Checks that there are 10,001 bytes, and that the last one is `y`.
 fn expect_long(rt: &impl Abort, bytes: &[u8]) {
     assert!(rt; bytes.len() == 10_001);
     assert!(rt; bytes[10_000] == b'y');
