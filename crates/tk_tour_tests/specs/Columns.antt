@@ -1,4 +1,4 @@
--- Cities in ten columns, where the columns alone tell how far two cities are apart.
+-- Cities in ten columns. The distance of two cities depends only on their columns.
 use Rattle.std.proofs.Common.{◌≡◌, ℕ, ◌*◌, ◌%◌, ◌≤◌, pos, arith}
 use Rattle.std.proofs.lemmas.Int.{ints}
 use Rattle.tk_problem.specs.declared.limits.TheConstants.{DISTANCE_LIMIT}
@@ -9,11 +9,11 @@ use Rattle.tk_distance.specs.Distance.{gap, reach}
 abbrev pub column : ℕ → ℕ
 column c = c % 10
 
--- how many columns two cities are apart
+-- the difference of the columns of two cities
 abbrev pub column_gap : ℕ → ℕ → ℕ
 column_gap a b = gap (pos (column a)) (pos (column b))
 
--- the place of a city, whose y is greater than any distance
+-- the point of a city, whose y is greater than any distance
 abbrev pub column_place : ℕ → Point
 column_place c = record { x = pos (column c); y = pos (c * 1000) }
 

@@ -4,7 +4,7 @@ use Rattle.tk_problem.specs.declared.weights.PlaneKind.{PlaneKind}
 use Rattle.tk_problem.specs.declared.weights.PlaneKind.TheVariants.{Euc2d, Ceil2d, Man2d, Max2d, Att}
 use Rattle.tk_metric.specs.Distance.{IsDistance}
 
--- a type, how far two coordinates differ, in billionths, and the distance
+-- a type, the differences of two coordinates, in billionths, and the distance
 pub record Example : Type 0 where
   pub kind : PlaneKind
   pub dx : ℕ
@@ -49,7 +49,7 @@ manhattan =
     ∷ example Man2d 2000000000000000000 2000000000000000000 4000000000
     ∷ []
 
--- the greater of the two rounded to the nearest
+-- the maximum, rounded to the nearest
 abbrev pub maximum : List Example
 maximum =
     example Max2d 0 0 0

@@ -13,7 +13,7 @@ use tk_descent::{
 use tk_metric::{Metric, Near, Triangle};
 use tk_tour::{ArrayTour, JournalTour, TourStore, length};
 
-/// The gains of another, with the look that every `Gains` has.
+/// Gains that wrap others, with the look that is the default of `Gains`.
 #[derive(Drop)]
 struct Plain<G>(G);
 
@@ -45,7 +45,7 @@ impl<G: Gains> Gains for Plain<G> {
     ghost count_limit = { λ p. G.count_limit p.0 };
 }
 
-/// The length of a tour of the cities of these distances.
+/// The length of a tour of the cities of a metric.
 fn length_of<M: Metric>(metric: &M, tour: &ArrayTour) -> i64
     requires { M.size_of metric.now ≡ length (order_of tour.now) }
     ensures { result ≡ pos (tour_length (M.distance metric.now) (order_of tour.now)) }
@@ -53,7 +53,7 @@ fn length_of<M: Metric>(metric: &M, tour: &ArrayTour) -> i64
     length(metric, tour.order())
 }
 
-/// A descent of a tour with all cities awake.
+/// Makes a descent of a tour with all cities awake.
 pub fn descend_awake<S: TourStore, G: Gains>(
     rt: &impl Abort,
     alloc: Global,
@@ -74,7 +74,8 @@ pub fn descend_awake<S: TourStore, G: Gains>(
     descend(tour, gains, near, &mut waking, or_segment, before)
 }
 
-/// A swept descent of a tour, in so many passes. City 2 alone is awake before, and none is after.
+/// Makes a swept descent of a tour, and checks that it takes this many passes. Only city 2 is awake before it, and no
+/// city after it.
 fn descend_in_passes<S: TourStore, G: Gains>(
     rt: &impl Abort,
     alloc: Global,
@@ -100,7 +101,7 @@ fn descend_in_passes<S: TourStore, G: Gains>(
     swept.descent
 }
 
-/// A descent of the tour with all cities awake, or a swept one in so many passes.
+/// Makes a descent of the tour with all cities awake or, if `passes` is given, a swept one of this many passes.
 fn descend_by_distances<M: Metric>(
     rt: &impl Abort,
     alloc: Global,
@@ -125,11 +126,11 @@ fn descend_by_distances<M: Metric>(
     }
 }
 
-/// How wide near lists are, and how long the segments that are moved; the passes of a swept descent. Then the lengths
-/// before and after; the moves, looks, tests and swaps; and how the tour is printed after it.
+/// The length of the near lists, and the maximum length of the segments that are moved; the passes of a swept descent.
+/// Then the lengths before and after; the moves, looks, tests and swaps; and the canonical form of the tour after it.
 type Row<'a> = ((u32, u32), Option<u64>, [i64; 2], [u64; 4], &'a [u32]);
 
-/// A descent of the cities in this order does what the row says, and makes a local optimum.
+/// Checks that a descent of the cities in this order has the results of the row, and ends in a local optimum.
 fn expect_descent<M: Metric>(
     rt: &impl Abort,
     alloc: Global,
@@ -253,7 +254,7 @@ fn longer_segments(rt: HostRuntime) {
     expect_descents(&rt, rt.alloc(), &uneven_cities(), &[1, 2, 3, 4, 5], rows);
 }
 
-/// A descent of the crossed square with no city awake does nothing, and so makes no local optimum.
+/// Checks that a descent of the crossed square with no city awake does nothing, and so does not end in a local optimum.
 fn expect_nothing_done<M: Metric>(
     rt: &impl Abort,
     alloc: Global,
@@ -279,7 +280,7 @@ fn crossed_square_asleep(rt: HostRuntime) {
     assert!(rt; tour.order() == [1, 2, 3, 4].as_slice());
 }
 
-/// A descent of a journal's tour by gains that have no look of their own.
+/// Checks a descent of a tour with a journal, by gains with the default look.
 fn expect_plain_descent<M: Metric>(
     rt: &impl Abort,
     alloc: Global,
@@ -306,7 +307,7 @@ fn journal_by_plain_gains(rt: HostRuntime) {
     expect_plain_descent(&rt, rt.alloc(), &metric, &mut tour, &near);
 }
 
-/// A descent of five cities whose looks remember steps, and the steps that they remember then.
+/// Makes a descent of five cities with a cache of edge lengths, and returns the cache after it.
 fn steps_after<M: Metric>(
     rt: &impl Abort,
     alloc: Global,
@@ -339,7 +340,7 @@ fn remembers_steps(rt: HostRuntime) -> Result<(), AllocError> {
     Ok(())
 }
 
-/// The first look at city 1 finds an offer, and after its move none.
+/// Checks that the first look at city 1 finds an offer, and that the look after its move finds none.
 fn expect_one_offer<M: Metric>(rt: &impl Abort, metric: &M, tour: &mut ArrayTour, near: &Near)
     requires near { near.now.size ≡ M.size_of metric.now }
 {

@@ -1,4 +1,4 @@
-//! What tests begin with, where there is memory for it: tours, near lists, and cities that are awake.
+//! Inputs of tests: tours, near lists, and cities that are awake. A test fails if memory runs out.
 ghost use Rattle.std.specs.Prelude.{◌≡◌};
 ghost use Rattle.tk_metric.specs.Near.{AreNearest};
 ghost use Rattle.tk_tour.specs.ArrayTours.{order_of};
@@ -12,7 +12,7 @@ use tk_tour::{ArrayTour, JournalTour, UndoStore};
 /// Eight cities in the order of their numbers.
 pub const EIGHT: [u32; 8] = [1, 2, 3, 4, 5, 6, 7, 8];
 
-/// So many cities in the order of their numbers.
+/// The first n cities, in the order of their numbers.
 pub fn first_cities(rt: &impl Abort, alloc: Global, n: u32) -> Vec<u32> {
     let mut cities = Vec::new(alloc);
     for k in 0..n {
@@ -21,14 +21,14 @@ pub fn first_cities(rt: &impl Abort, alloc: Global, n: u32) -> Vec<u32> {
     cities
 }
 
-/// A tour that stands as the list does.
+/// A tour in the order of the list.
 pub fn tour_of(rt: &impl Abort, alloc: Global, cities: &[u32]) -> ArrayTour
     ensures { order_of result ≡ cities.now }
 {
     ArrayTour::from_list(alloc, cities).expect(rt, "a tour")
 }
 
-/// A tour with a journal of so many flips.
+/// A tour with a journal of this many flips.
 pub fn journal_of<S: UndoStore>(
     rt: &impl Abort,
     alloc: Global,
@@ -38,13 +38,13 @@ pub fn journal_of<S: UndoStore>(
     JournalTour::new(alloc, tour, slots).expect(rt, "memory for a journal")
 }
 
-/// The tour is printed as this list.
+/// Checks that the canonical form of the tour is this list.
 pub fn expect_printed(rt: &impl Abort, alloc: Global, tour: &ArrayTour, want: &[u32]) {
     let printed = tour.canonical(alloc).expect(rt, "memory for a list");
     assert!(rt; printed.as_slice() == want);
 }
 
-/// The near lists of all cities, k for each, by a scan.
+/// The near lists of all cities, with k cities each, by a scan.
 pub fn near_of<M: Metric>(rt: &impl Abort, alloc: Global, metric: &M, k: u32) -> Near
     ensures size { result.size ≡ M.size_of metric.now }
     ensures width { result.width ≡ k }
@@ -54,7 +54,7 @@ pub fn near_of<M: Metric>(rt: &impl Abort, alloc: Global, metric: &M, k: u32) ->
     near_scan(alloc, metric, k).expect(rt, "memory for near lists")
 }
 
-/// So many cities, all of them awake.
+/// This many cities, all of them awake.
 pub fn all_awake(rt: &impl Abort, alloc: Global, n: u32) -> Waking
     ensures { result.size ≡ n }
 {
@@ -63,7 +63,7 @@ pub fn all_awake(rt: &impl Abort, alloc: Global, n: u32) -> Waking
     waking
 }
 
-/// The lengths before and after a descent; its moves, looks, tests and swaps.
+/// Checks the lengths before and after a descent, and its moves, looks, tests and swaps.
 pub fn expect_report(rt: &impl Abort, report: &Report, lengths: [i64; 2], counts: [u64; 4]) {
     assert!(rt; [report.before, report.after] == lengths);
     assert!(rt; [report.moves, report.looks, report.tests, report.swaps] == counts);

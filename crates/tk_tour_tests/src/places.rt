@@ -1,4 +1,4 @@
-//! Places in the plane.
+//! Points in the plane.
 
 use rand::RngExt;
 use rand_pcg::Pcg32;
@@ -10,17 +10,17 @@ use tk_text::{Places, PlaneKind, Point, Points, Unit};
 /// One, in units of 10^-9.
 pub const WHOLE: u32 = 1_000_000_000;
 
-/// A part of one that is a whole number of no unit but 10^-9.
+/// A part of one that is a whole number only of the unit 10^-9.
 pub const PART: u32 = 300_000_001;
 
-/// The greatest coordinate, in units of 10^-9.
+/// The maximum of a coordinate, in units of 10^-9.
 pub const FAR: i64 = 1_000_000_000_000_000_000;
 
 pub const ORIGIN: Point = Point { x: 0, y: 0 };
 
 pub const SQUARE: [(u16, u16); 4] = [(0, 0), (10, 10), (10, 0), (0, 10)];
 
-/// Writes a place of a list, which is not too far away.
+/// Sets a point of a list, and checks that its coordinates are within the limit.
 fn put(rt: &impl Abort, points: &mut Points, index: usize, place: Point) {
     assert!(rt; place.x.unsigned_abs() <= FAR as u64 && place.y.unsigned_abs() <= FAR as u64);
     assert!(rt; index < points.len());
@@ -31,7 +31,7 @@ fn at_origin(rt: &impl Abort, alloc: Global, count: usize) -> Points {
     Points::at_origin(alloc, count).expect(rt, "memory for places")
 }
 
-/// The places of these coordinates, in units of 10^-9.
+/// The points with these coordinates, in units of 10^-9.
 pub fn points_of(rt: &impl Abort, alloc: Global, places: &[Point]) -> Points {
     let mut points = at_origin(rt, alloc, places.len());
     for (i, place) in places.iter().enumerate() {
@@ -40,7 +40,7 @@ pub fn points_of(rt: &impl Abort, alloc: Global, places: &[Point]) -> Points {
     points
 }
 
-/// The place of a corner whose coordinates are whole numbers of a unit.
+/// The point of a corner whose coordinates are whole numbers of a unit.
 fn place((x, y): (u16, u16), unit: u32) -> Point {
     let unit = unit as i64;
     Point {
@@ -49,7 +49,7 @@ fn place((x, y): (u16, u16), unit: u32) -> Point {
     }
 }
 
-/// The places of corners.
+/// The points of corners.
 pub fn places(rt: &impl Abort, alloc: Global, corners: &[(u16, u16)], unit: u32) -> Points {
     let mut points = at_origin(rt, alloc, corners.len());
     for (i, corner) in corners.iter().enumerate() {
@@ -58,7 +58,7 @@ pub fn places(rt: &impl Abort, alloc: Global, corners: &[(u16, u16)], unit: u32)
     points
 }
 
-/// 300 places in a box, some of them more than once.
+/// 300 points in a box; some of them can occur more than once.
 pub fn random_places(
     rt: &impl Abort,
     alloc: Global,
@@ -79,7 +79,7 @@ pub fn random_places(
     points
 }
 
-/// So many places at random corners of a square of a hundred by a hundred.
+/// This many points at random corners of a square of a hundred by a hundred.
 pub fn drawn_places(rt: &impl Abort, alloc: Global, count: u32, rng: &mut Pcg32) -> Points {
     let mut points = at_origin(rt, alloc, count as usize);
     for i in 0..count {
@@ -89,7 +89,7 @@ pub fn drawn_places(rt: &impl Abort, alloc: Global, count: u32, rng: &mut Pcg32)
     points
 }
 
-/// The unit that a list keeps its places in: none for units of 10^-9.
+/// The unit in which a list stores its points; `None` for units of 10^-9.
 pub fn unit_of(points: &Points) -> Option<Unit> {
     match points.places() {
         Places::Whole(unit, _) => Some(unit),
@@ -97,7 +97,7 @@ pub fn unit_of(points: &Points) -> Option<Unit> {
     }
 }
 
-/// The distances of a kind among at most 300 places.
+/// The distances of a type among at most 300 points.
 pub fn planes_of<'a>(rt: &impl Abort, kind: PlaneKind, points: &'a Points) -> Planes<'a> {
     assert!(rt; points.len() <= 300);
     Planes::new(kind, points)

@@ -1,4 +1,4 @@
-//! Searches: kicks, trials, and the same search over either store.
+//! Searches: kicks, trials, and the same search on either store.
 pub mod alike;
 pub mod kicks;
 pub mod worked;

@@ -1,4 +1,4 @@
-//! Starting tours: nearest neighbour, savings merges and their joints.
+//! Starting tours: nearest neighbour, the savings algorithm and its joints.
 pub mod joints;
 pub mod nearest_tours;
 pub mod savings;

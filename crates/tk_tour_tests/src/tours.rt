@@ -1,4 +1,4 @@
-//! Tours: lists, array tours, journals, and tours that are seen through segments.
+//! Tours: lists, tours in an array, journals, and tours in segments.
 pub mod examples;
 pub mod segments;
 pub mod worked;

@@ -4,7 +4,7 @@ ghost use Rattle.std.specs.Prelude.{◌≡◌};
 use std::process::Abort;
 use tk_descent::Waking;
 
-/// This city is the next to be taken, or none is.
+/// Checks that this city is the next to be taken, or that there is none.
 fn expect_next(rt: &impl Abort, waking: &mut Waking, want: Option<u32>)
     ensures { waking.new.size ≡ waking.old.size }
 {

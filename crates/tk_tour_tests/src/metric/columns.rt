@@ -1,4 +1,4 @@
-//! A sweep of a metric in which y tells nothing.
+//! A sweep of a metric in which distances do not depend on y.
 ghost use Rattle.std.specs.Prelude.{◌≤◌};
 ghost use Rattle.tk_problem.specs.declared.limits.TheConstants.{CITY_LIMIT};
 
@@ -7,7 +7,7 @@ use crate::metric::lists::{expect, near_by_sweep};
 use tk_metric::{Metric, Planar};
 use tk_text::Point;
 
-/// Cities in ten columns, where the columns alone tell how far two cities are apart.
+/// Cities in ten columns. The distance of two cities depends only on their columns.
 #[derive(Drop)]
 struct Columns {
     cities: u32,

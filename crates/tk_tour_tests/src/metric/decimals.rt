@@ -1,12 +1,12 @@
-//! Distances of coordinates with up to three decimals, which are kept as whole numbers of a unit: each is also computed
-//! from coordinates that are kept in units of 10^-9.
+//! Distances of coordinates with up to three decimals, which are stored as whole numbers of a unit. Each distance is
+//! also computed from coordinates that are stored in units of 10^-9.
 use crate::places::{ORIGIN, planes_of, points_of, unit_of};
 use std::alloc::Global;
 use std::process::Abort;
 use tk_metric::Metric;
 use tk_text::{PlaneKind, Point, Points, Unit};
 
-/// A place that is a whole number of no unit.
+/// A point whose coordinates are not all whole numbers of a unit.
 const SPECK: Point = Point { x: 1, y: 0 };
 
 const KINDS: [PlaneKind; 5] = [
@@ -17,7 +17,7 @@ const KINDS: [PlaneKind; 5] = [
     PlaneKind::Att,
 ];
 
-/// Two places in thousandths, the unit that both are kept in, and their distance by each kind.
+/// Two points in thousandths, the unit in which both are stored, and their distance by each type.
 #[derive(Clone, Copy)]
 struct Row {
     unit: Option<Unit>,
@@ -33,14 +33,14 @@ fn place_of((x, y): (i64, i64)) -> Point {
     }
 }
 
-/// The distance of the first two of three places by a metric, both by `dist` and by `is_nearer`.
+/// Checks the distance of the first two of three points by a metric, both by `dist` and by `is_nearer`.
 fn expect_distance<M: Metric>(rt: &impl Abort, metric: &M, want: i64) {
     assert!(rt; metric.size() == 3);
     assert!(rt; metric.dist(1, 2) == want && metric.dist(2, 1) == want && metric.dist(2, 2) == 0);
     assert!(rt; metric.is_nearer(1, 2, want.wrapping_add(1)) && !metric.is_nearer(1, 2, want));
 }
 
-/// The same by a kind of the plane. Places in a unit have a metric of their own for EUC_2D.
+/// Like `expect_distance`, for a type of plane distances. Points in a unit have a metric of their own for EUC_2D.
 fn expect_kind(rt: &impl Abort, points: &Points, unit: Option<Unit>, kind: PlaneKind, want: i64) {
     let planes = planes_of(rt, kind, points);
     expect_distance(rt, &planes, want);
@@ -54,7 +54,7 @@ fn expect_kind(rt: &impl Abort, points: &Points, unit: Option<Unit>, kind: Plane
     }
 }
 
-/// The unit of three places, and the distances of the first two.
+/// Checks the unit of three points, and the distance of the first two by each type.
 fn expect_distances(rt: &impl Abort, points: &Points, unit: Option<Unit>, distances: &[i64; 5]) {
     assert!(rt; unit_of(points) == unit);
     for k in 0..5 {
@@ -62,7 +62,7 @@ fn expect_distances(rt: &impl Abort, points: &Points, unit: Option<Unit>, distan
     }
 }
 
-/// The distances of a row, in its unit and in units of 10^-9.
+/// Checks the distances of a row, in its unit and in units of 10^-9.
 fn expect_row(rt: &impl Abort, alloc: Global, row: &Row) {
     let (from, to) = (place_of(row.from), place_of(row.to));
     let points = points_of(rt, alloc, &[from, to, ORIGIN]);

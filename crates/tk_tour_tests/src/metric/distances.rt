@@ -5,7 +5,7 @@ use std::process::Abort;
 use tk_metric::{Metric, Planar, Sub, Table, Triangle, root, root_up};
 use tk_text::{PlaneKind, Point, Points, Problem, Weights};
 
-/// No two places with a difference are nearer than this, by a kind.
+/// Checks the lower bound of the distance of points that differ by this much in x, by each type.
 fn expect_floors(rt: &impl Abort, points: &Points, rows: &[(PlaneKind, u64, i64)]) {
     for (kind, difference, want) in rows {
         assert!(rt; *difference <= 2_000_000_000_000_000_000);
@@ -36,7 +36,7 @@ const WHOLE: Point = Point {
 
 const FINE: Point = Point { x: 5, y: -FAR };
 
-/// The places of the origin and of `WHOLE` are got back, and that of `FINE` where it is the third.
+/// Checks that the origin and `WHOLE` are returned as they were stored, and that the third point is this one.
 fn expect_places(rt: &impl Abort, points: &Points, third: Point) {
     assert!(rt; points.len() == 3);
     assert!(rt; points.get(0) == ORIGIN && points.get(1) == WHOLE);
@@ -55,7 +55,7 @@ fn places_one_of_which_is_not_whole(rt: HostRuntime) {
     expect_places(&rt, &fine, FINE);
 }
 
-/// The distances of these pairs of cities.
+/// Checks the distances of these pairs of cities.
 fn expect_pairs<M: Metric>(rt: &impl Abort, metric: &M, rows: &[(u32, u32, i64)]) {
     let n = metric.size();
     for (a, b, want) in rows {
@@ -64,7 +64,7 @@ fn expect_pairs<M: Metric>(rt: &impl Abort, metric: &M, rows: &[(u32, u32, i64)]
     }
 }
 
-/// UPPER_ROW `1 2 3 4 5 6`, and so from the first row of the lower triangle on.
+/// UPPER_ROW `1 2 3 4 5 6`, as the rows of the lower triangle.
 const LOWER: [u32; 6] = [1, 2, 4, 3, 5, 6];
 
 #[test]
@@ -97,7 +97,7 @@ fn some_of_the_cities(rt: HostRuntime) {
     expect_pairs(&rt, &some, &[(1, 2, 5), (2, 3, 5), (1, 3, 0)]);
 }
 
-/// The weights of `LOWER`.
+/// A problem with the weights of `LOWER`.
 fn explicit(rt: &impl Abort, alloc: Global) -> Problem {
     let weights = Vec::from_slice(alloc, &LOWER).expect(rt, "memory for weights");
     assert!(rt; weights.iter().all(|weight| *weight <= 4_000_000_000));
@@ -125,7 +125,7 @@ fn in_the_plane(rt: &impl Abort, alloc: Global) -> Problem {
     }
 }
 
-/// The table of a problem has so many cities, and this distance.
+/// Checks that the table of a problem has this many cities, and this distance.
 fn expect_table(rt: &impl Abort, problem: &Problem, size: u32, row: (u32, u32, i64)) {
     let table = Table::of(problem);
     assert!(rt; table.size() == size);

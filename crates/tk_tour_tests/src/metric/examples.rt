@@ -1,5 +1,5 @@
-//! The definition of distances, proved at the examples of the tables in
-//! `specs/DistanceExamples.antt`: there is nothing to run.
+//! Tests of the definition of distances, by the tables in `specs/DistanceExamples.antt`. The prover computes them; the
+//! functions do nothing.
 ghost use Rattle.tk_tour_tests.specs.DistanceExamples as Examples;
 
 fn distances()

@@ -1,4 +1,4 @@
-//! Known near lists, and that a sweep and a tree give what a scan does.
+//! Known near lists. A sweep and a tree find the same lists as a scan.
 ghost use Rattle.std.specs.Prelude.{◌≡◌};
 ghost use Rattle.tk_metric.specs.Near.{AreNearest};
 
@@ -12,13 +12,13 @@ use tk_metric::{
 };
 use tk_text::PlaneKind;
 
-/// The near lists of all cities, k for each, by a sweep.
+/// The near lists of all cities, with k cities each, by a sweep.
 pub fn near_by_sweep<P: Planar>(rt: &impl Abort, alloc: Global, metric: &P, k: u32) -> Near {
     assert!(rt; 1 <= k && k <= 100 && k < metric.size());
     near_sweep(alloc, metric, k).expect(rt, "memory for near lists")
 }
 
-/// The same by a tree.
+/// Like `near_by_sweep`, but by a tree.
 fn near_by_tree<P: BothAxes>(rt: &impl Abort, alloc: Global, metric: &P, k: u32) -> Near
     ensures size { result.size ≡ P.size_of metric.now }
     ensures width { result.width ≡ k }
@@ -28,13 +28,13 @@ fn near_by_tree<P: BothAxes>(rt: &impl Abort, alloc: Global, metric: &P, k: u32)
     near_tree(alloc, metric, k).expect(rt, "memory for near lists")
 }
 
-/// The same of a table.
+/// The near lists of a table, with k cities each.
 fn near_of_table(rt: &impl Abort, alloc: Global, planes: Planes<'_>, k: u32) -> Near {
     assert!(rt; 1 <= k && k <= 100 && k < planes.size());
     near_lists(alloc, &Table::Planes(planes), k).expect(rt, "memory for near lists")
 }
 
-/// The lists of all cities are these, one after another.
+/// Checks that the near lists of all cities are these, one after another.
 pub fn expect(rt: &impl Abort, near: &Near, want: &[u32]) {
     let width = near.width() as usize;
     assert!(rt; want.len() == near.size() as usize * width);
@@ -47,7 +47,7 @@ pub fn expect(rt: &impl Abort, near: &Near, want: &[u32]) {
     }
 }
 
-/// The lists of both are the same.
+/// Checks that both have the same near lists.
 fn expect_same(rt: &impl Abort, near: &Near, other: &Near) {
     assert!(rt; near.size() == other.size());
     for c in 1..near.size() + 1 {
@@ -55,8 +55,8 @@ fn expect_same(rt: &impl Abort, near: &Near, other: &Near) {
     }
 }
 
-/// The lists of a scan. Those of a sweep by x and of a tree are the same, as these have to be by the law that near
-/// lists agree.
+/// The near lists by a scan. Checks that those by a sweep along x and by a tree are the same; for the tree, this
+/// follows from the law that near lists agree.
 fn lists_in_plane<P: BothAxes>(rt: &impl Abort, alloc: Global, metric: &P, k: u32) -> Near {
     let scanned = near_of(rt, alloc, metric, k);
     let found = near_by_tree(rt, alloc, metric, k);
@@ -68,18 +68,18 @@ fn lists_in_plane<P: BothAxes>(rt: &impl Abort, alloc: Global, metric: &P, k: u3
     scanned
 }
 
-/// The same of places in the plane. Those of a table are the same too.
+/// Like `lists_in_plane`, for points; also checks that the near lists of a table are the same.
 fn lists_of_places(rt: &impl Abort, alloc: Global, planes: &Planes<'_>, k: u32) -> Near {
     let scanned = lists_in_plane(rt, alloc, planes, k);
     expect_same(rt, &near_of_table(rt, alloc, *planes, k), &scanned);
     scanned
 }
 
-/// Places at corners whose coordinates are whole numbers of a unit, how many cities are listed for each, and the lists
-/// of all, one after another.
+/// A distance type, corners whose coordinates are whole numbers of a unit, this unit, the length of the near lists, and
+/// all of them, one after another.
 type Row<'a> = (PlaneKind, &'a [(u16, u16)], u32, u32, &'a [u32]);
 
-/// The lists are these, by x and by y.
+/// Checks that the near lists are these, along x and along y.
 fn expect_row(rt: &impl Abort, alloc: Global, row: &Row<'_>) {
     let (kind, corners, unit, k, want) = *row;
     let points = places(rt, alloc, corners, unit);
@@ -131,7 +131,7 @@ fn a_cut_between_equal_distances(rt: HostRuntime) {
         (8, 0),
         (9, 0),
     ];
-    // a tree cuts between 5 and 6, which are as near to each other as to 4 and 7
+    // a tree splits between 5 and 6, which are as near to each other as to 4 and 7
     let want = &[2, 3, 1, 3, 2, 4, 3, 5, 4, 6, 5, 7, 6, 8, 7, 9, 8, 10, 9, 8];
     expect_row(&rt, rt.alloc(), &(PlaneKind::Euc2d, row, WHOLE, 2, want));
 }
@@ -150,7 +150,7 @@ fn each_kind(rt: HostRuntime) {
     expect_rows(&rt, rt.alloc(), rows);
 }
 
-/// The lists of 300 places in a box agree.
+/// Checks that the near lists of 300 points in a box agree.
 fn expect_agreed(
     rt: &impl Abort,
     alloc: Global,

@@ -1,4 +1,4 @@
-//! A search goes the same way over a tour in an array and over one that is seen through segments.
+//! A search takes the same course on a tour in an array and on a tour in segments.
 ghost use Rattle.std.specs.Prelude.{◌≡◌, IfOk, pos, length};
 ghost use Rattle.tk_tour.specs.JournalTours.{cities_of};
 ghost use Rattle.tk_tour.specs.Tour.{tour_length};
@@ -18,7 +18,7 @@ use tk_segments::SegmentTour;
 use tk_text::PlaneKind;
 use tk_tour::{ArrayTour, JournalTour, TourStore, UndoStore, length};
 
-/// The length of a tour as it stands.
+/// The current length of a tour.
 fn length_now<S: UndoStore, M: Metric>(
     alloc: Global,
     tour: &JournalTour<S>,
@@ -32,7 +32,7 @@ fn length_now<S: UndoStore, M: Metric>(
     Ok(length(metric, &cities))
 }
 
-/// A descent of a tour as it stands, with all cities awake.
+/// Makes a descent of a tour from its current order, with all cities awake.
 fn descend_now<S: UndoStore, M: Metric>(
     rt: &impl Abort,
     alloc: Global,
@@ -47,7 +47,7 @@ fn descend_now<S: UndoStore, M: Metric>(
     descend_awake(rt, alloc, tour, &mut Probe::new(metric), near, 3, before)
 }
 
-/// A trial, as a search makes it: the shortest length then.
+/// Makes a trial, as a search does, and returns the shortest length after it.
 fn make_trial<S: UndoStore, M: Metric>(
     rt: &impl Abort,
     alloc: Global,
@@ -69,7 +69,7 @@ fn make_trial<S: UndoStore, M: Metric>(
     shortest
 }
 
-/// Trials of both, by the same random numbers.
+/// Checks that trials of both tours agree, with the same random numbers.
 fn expect_same_trials<M: Metric>(
     rt: &impl Abort,
     alloc: Global,
@@ -90,7 +90,7 @@ fn expect_same_trials<M: Metric>(
     }
 }
 
-/// Trials of both from one start, with as few segments as the limit for exchanges allows.
+/// Checks that trials of both tours from one start agree, with as few segments as the limit for swaps allows.
 fn expect_same_from<M: Metric>(
     rt: &impl Abort,
     alloc: Global,
@@ -116,7 +116,7 @@ fn expect_same_from<M: Metric>(
     );
 }
 
-/// Trials of both among so many random places.
+/// Checks that trials of both tours agree for n random points.
 fn expect_same_search(rt: &impl Abort, alloc: Global, n: u32, short: u32, trials: u32) {
     let seed = u64::from(n) * 3000 + u64::from(short);
     let points = drawn_places(rt, alloc, n, &mut Pcg32::seed_from_u64(seed));

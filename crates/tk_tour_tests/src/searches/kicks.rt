@@ -1,4 +1,4 @@
-//! Cuts and kicks by example.
+//! Examples of cuts and kicks.
 
 use crate::given::{EIGHT, expect_printed, tour_of};
 use rand_core::{Rng, SeedableRng};
@@ -10,7 +10,7 @@ use tk_tour::TourStore;
 
 #[test]
 fn draws_cuts_by_the_words(rt: HostRuntime) {
-    // the first word of each leaves the first cut open; with the second it is rounded down, or up by a carry
+    // the first word of each row does not decide the first cut; with the second, it is rounded down, or up by a carry
     let rows = [
         (14042044, Cuts { p: 2, q: 4, r: 9 }, 2671601159),
         (432574943, Cuts { p: 9, q: 10, r: 11 }, 3619262728),
@@ -22,7 +22,7 @@ fn draws_cuts_by_the_words(rt: HostRuntime) {
     }
 }
 
-/// The cuts of eight cities in their order have these ends, and a kick leads to this tour.
+/// Checks that these cuts of eight cities in their order have these ends, and that a kick leads to this tour.
 fn expect_kick(rt: &impl Abort, alloc: Global, cuts: Cuts, ends: [u32; 8], want: &[u32]) {
     let mut tour = tour_of(rt, alloc, &EIGHT);
     assert!(rt; tour.size() == 8);

@@ -1,4 +1,4 @@
-//! Searches by example. The numbers are those of another program, which was written from the rules of the search.
+//! Examples of searches. The numbers are those of another program, which was written from the rules of the search.
 ghost use Rattle.std.specs.Prelude.{◌≡◌};
 
 use crate::given::{expect_report, near_of, tour_of};
@@ -12,7 +12,7 @@ use tk_metric::{Metric, Near, Triangle};
 use tk_text::PlaneKind;
 use tk_tour::TourStore;
 
-// A search from a list.
+// A search that starts from a list.
 fn begin<'a, M: Metric>(
     rt: &impl Abort,
     alloc: Global,
@@ -29,15 +29,15 @@ fn begin<'a, M: Metric>(
     Search::new(alloc, metric, near, start, rules).expect(rt, "memory for a search")
 }
 
-// What a trial did: the lengths before and after; the moves, looks, tests, swaps and passes.
+// Checks the lengths before and after a trial, and its moves, looks, tests, swaps and passes.
 fn expect_trial(rt: &impl Abort, report: &TrialReport, lengths: [i64; 2], counts: [u64; 5]) {
     let [moves, looks, tests, swaps, passes] = counts;
     expect_report(rt, &report.descent, lengths, [moves, looks, tests, swaps]);
     assert!(rt; report.passes == passes);
 }
 
-// A search on fewer than 8 cities: a trial, and then none. The counts are those of segments of at most 1, 2 and 3
-// cities, and then the same swept.
+// A search on fewer than 8 cities, which makes a single trial. The counters are those for segments of at most 1, 2 and
+// 3 cities, first without and then with a final sweep.
 #[derive(Clone, Copy)]
 struct Few<'a> {
     metric: Triangle<'a>,
@@ -48,7 +48,7 @@ struct Few<'a> {
     counts: [[u64; 5]; 6],
 }
 
-// A search on few cities makes a trial, and then none.
+// Checks that a search on few cities makes one trial, and then none.
 fn expect_trials<M: Metric>(rt: &impl Abort, search: &mut Search<M>, few: &Few, counts: [u64; 5]) {
     let mut rng = Pcg32::seed_from_u64(1);
     let [_, after] = few.lengths;
@@ -190,14 +190,14 @@ fn totals(start: i64, counts: [u128; 9]) -> Totals {
     }
 }
 
-// After a kick few cities are awake: 4 * 3 * 5 tests for each of at most 8, and of 6 more for each move.
+// After a kick, few cities are awake: there are at most 8 looks, and 6 more for each move, with 4 * 3 * 5 tests each.
 fn expect_few_looks(rt: &impl Abort, report: &TrialReport) {
     let moves = u128::from(report.descent.moves);
     assert!(rt; u128::from(report.descent.looks) <= 8 + 6 * moves);
     assert!(rt; u128::from(report.descent.tests) <= 480 + 360 * moves);
 }
 
-// Trials up to the last of that number.
+// Makes trials up to the one with this number.
 fn run<M: Metric>(
     rt: &impl Abort,
     search: &mut Search<M>,
@@ -213,7 +213,7 @@ fn run<M: Metric>(
     }
 }
 
-// The trials of a search have these totals and lead to this tour.
+// Checks that the trials of a search have these totals and lead to this tour.
 fn expect_all_totals<M: Metric>(rt: &impl Abort, search: &mut Search<M>, many: &Many) {
     let mut rng = Pcg32::seed_from_u64(many.seed);
     for counts in many.totals {
@@ -274,7 +274,7 @@ fn later_trials_look_at_few_cities(rt: HostRuntime) {
     expect_many(&rt, rt.alloc(), &many);
 }
 
-// Nine places; the shortest tour among all has the length 34.
+// Nine points; the shortest of all tours has length 34.
 const NINE: [(u16, u16); 9] = [
     (1, 4),
     (7, 7),

@@ -1,4 +1,5 @@
-//! The definitions of the savings merges, computed at small cases: there is nothing to run.
+//! Tests of the definitions of the savings algorithm at small cases. The prover computes them; the functions do
+//! nothing.
 ghost use Rattle.std.specs.Prelude.{[], ◌∷◌, ◌≡◌};
 ghost use Rattle.tk_tour_tests.specs.JointExamples.{pair, one_each};
 ghost use Rattle.tk_build.specs.Joints.{joints};
@@ -14,7 +15,7 @@ fn inner()
         ≡ pair 7 3 5 ∷ pair 9 2 4 ∷ pair 10 2 3 ∷ [] }
 {}
 
-/// Two lists of two are not joined over the capacity, and none at capacity 1.
+/// Two lists of two cities are not joined if their load exceeds the capacity; at capacity 1, no cities are joined.
 fn loads()
     ensures two { joints one_each 5 2 [] (pair 20 2 3 ∷ pair 20 4 5 ∷ pair 3 2 4 ∷ [])
         ≡ pair 20 4 5 ∷ pair 20 2 3 ∷ [] }

@@ -7,12 +7,12 @@ use tk_build::{nearest, nearest_tour, nearest_tours_agree, nearest_tree};
 use tk_metric::{BothAxes, Metric, Planes, Table, Triangle};
 use tk_text::PlaneKind;
 
-/// A tour that begins there is this one.
+/// Checks that a tour that begins at `start` is this one.
 fn expect_cities(rt: &impl Abort, found: &[u32], start: u32, want: &[u32]) {
     assert!(rt; found == want, "from {start}: {found:?}");
 }
 
-/// The tours of a scan and of a tree are this one, as they have to be the same by the law that nearest-neighbour tours
+/// Checks that the tours by a scan and by a tree are this one. They are equal by the law that nearest-neighbour tours
 /// agree.
 fn expect_in_plane<P: BothAxes>(
     rt: &impl Abort,
@@ -29,7 +29,7 @@ fn expect_in_plane<P: BothAxes>(
     expect_cities(rt, &found, start, want);
 }
 
-/// The tour of a table is this one.
+/// Checks that the tour of a table is this one.
 fn expect_of_table(rt: &impl Abort, alloc: Global, planes: Planes<'_>, start: u32, want: &[u32]) {
     assert!(rt; 1 <= start && start <= planes.size());
     let table = Table::Planes(planes);
@@ -37,7 +37,7 @@ fn expect_of_table(rt: &impl Abort, alloc: Global, planes: Planes<'_>, start: u3
     expect_cities(rt, &found, start, want);
 }
 
-/// The tours of a scan, of a tree and of a table are this one.
+/// Checks that the tours by a scan, by a tree and of a table are this one.
 fn expect_tour(rt: &impl Abort, alloc: Global, corners: &[(u16, u16)], start: u32, want: &[u32]) {
     let points = places(rt, alloc, corners, WHOLE);
     let planes = planes_of(rt, PlaneKind::Euc2d, &points);
@@ -61,7 +61,7 @@ fn in_the_plane(rt: HostRuntime) {
 
 #[test]
 fn by_explicit_weights(rt: HostRuntime) {
-    // 1 and 4 are at distance 2 of 3, 2 at 7; of 4, 1 and 2 are at 9
+    // from 3, cities 1 and 4 are at distance 2, and 2 at 7; from 4, cities 1 and 2 are at 9
     let metric = Triangle {
         n: 4,
         weights: &[5, 2, 7, 9, 9, 2],

@@ -1,4 +1,4 @@
-//! Worked examples of the savings merges.
+//! Worked examples of the savings algorithm.
 
 use crate::given::near_of;
 use std::alloc::Global;
@@ -6,7 +6,7 @@ use std::process::Abort;
 use tk_build::{savings_lists, savings_tour};
 use tk_metric::{Metric, Triangle};
 
-/// The lists over the near lists of all other cities.
+/// The lists of the savings algorithm, with near lists of all other cities.
 fn lists_of<M: Metric>(
     rt: &impl Abort,
     alloc: Global,
@@ -21,7 +21,7 @@ fn lists_of<M: Metric>(
     savings_lists(alloc, metric, hub, loads, capacity, &near).expect(rt, "memory for lists")
 }
 
-/// The lists are these.
+/// Checks that the lists are these.
 fn expect_each(rt: &impl Abort, lists: &[Vec<u32>], want: &[&[u32]]) {
     assert!(rt; lists.len() == want.len());
     for k in 0..want.len() {
@@ -29,7 +29,7 @@ fn expect_each(rt: &impl Abort, lists: &[Vec<u32>], want: &[&[u32]]) {
     }
 }
 
-/// For each of these capacities the lists round a hub, of cities with these loads, are those beside it.
+/// Checks that the lists around a hub, for cities with these loads, are those next to each capacity.
 fn expect_lists<M: Metric>(
     rt: &impl Abort,
     alloc: Global,
@@ -44,7 +44,7 @@ fn expect_lists<M: Metric>(
     }
 }
 
-/// The tour of the savings merges is this one.
+/// Checks that the tour of the savings algorithm is this one.
 fn expect_tour<M: Metric>(rt: &impl Abort, alloc: Global, metric: &M, want: &[u32]) {
     let n = metric.size();
     assert!(rt; 2 <= n);
@@ -89,7 +89,7 @@ fn one_list_of_four(rt: HostRuntime) {
     expect_lists(&rt, rt.alloc(), &weights, 1, &[0, 1, 1, 1, 1], rows);
 }
 
-/// The same weights times 150,000,000: savings too great for keys
+/// The weights of `one_list_of_four` times 150,000,000: the savings are too large for keys
 #[test]
 fn one_list_of_four_far_apart(rt: HostRuntime) {
     let weights = Triangle {

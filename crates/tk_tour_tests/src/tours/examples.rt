@@ -1,4 +1,4 @@
-//! The definitions of tours, computed at small ones: there is nothing to run.
+//! Tests of the definitions of tours at small ones. The prover computes them; the functions do nothing.
 ghost use Rattle.std.specs.Prelude.{[], ◌∷◌, ◌≡◌};
 ghost use Rattle.tk_tour.specs.Reversal.{begun_at, reversed_places};
 ghost use Rattle.tk_tour.specs.Tour.{next_city, occurrences, place_of, prev_city, tour_length};

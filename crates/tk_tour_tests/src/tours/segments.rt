@@ -1,4 +1,4 @@
-//! A tour that is seen through segments is the one in an array, flip by flip.
+//! A tour in segments equals a tour in an array, flip by flip.
 ghost use Rattle.std.specs.Prelude.{◌<◌};
 
 use crate::given::{first_cities, journal_of, tour_of};
@@ -8,7 +8,7 @@ use std::process::Abort;
 use tk_segments::SegmentTour;
 use tk_tour::{ArrayTour, Flip, JournalTour, TourStore, UndoStore};
 
-/// The next of the pseudorandom numbers below a limit.
+/// The next pseudorandom number below a limit.
 fn draw_below(state: &mut u64, limit: u32) -> u32
     requires { 0 < limit }
     ensures { result < limit }
@@ -19,7 +19,7 @@ fn draw_below(state: &mut u64, limit: u32) -> u32
     (*state >> 33) as u32 % limit
 }
 
-/// A list of so many cities, shuffled.
+/// A shuffled list of n cities.
 fn shuffled(rt: &impl Abort, alloc: Global, n: u32, state: &mut u64) -> Vec<u32> {
     let mut cities = first_cities(rt, alloc, n);
     for k in 0..cities.len() {
@@ -49,7 +49,7 @@ fn flip_at<S: TourStore>(rt: &impl Abort, tour: &mut S, a: u32, c: u32, ahead: b
     flip_before(rt, tour, a, c)
 }
 
-/// The same cities in the same order.
+/// Checks that both tours have the same cities in the same order.
 fn expect_same_order<S: TourStore, T: TourStore>(rt: &impl Abort, one: &S, other: &T) {
     let n = one.size();
     assert!(rt; other.size() == n);
@@ -61,14 +61,14 @@ fn expect_same_order<S: TourStore, T: TourStore>(rt: &impl Abort, one: &S, other
     }
 }
 
-/// The same flips, and as many swaps that made and undid them.
+/// Checks that both tours count the same flips, and the same swaps for making and for undoing them.
 fn expect_same_counts<S: UndoStore, T: UndoStore>(rt: &impl Abort, one: &S, other: &T) {
     assert!(rt; one.flips() == other.flips());
     assert!(rt; one.swaps() == other.swaps());
     assert!(rt; one.undo_swaps() == other.undo_swaps());
 }
 
-/// The same cities in the same order, with the same counts; the places that were written are paid by swaps.
+/// Checks that both tours have the same order and the same counters, and that swaps pay for the positions written.
 pub fn expect_alike(rt: &impl Abort, array: &ArrayTour, segments: &SegmentTour) {
     expect_same_order(rt, array, segments);
     expect_same_counts(rt, array, segments);
@@ -76,7 +76,7 @@ pub fn expect_alike(rt: &impl Abort, array: &ArrayTour, segments: &SegmentTour) 
     assert!(rt; segments.writes() / 2 <= paid);
 }
 
-/// Two cities, of which the second stands near the first as often as not.
+/// Two random cities. In half of the cases, the second one is at most a quarter of the tour after the first.
 fn draw_cities(rt: &impl Abort, tour: &ArrayTour, state: &mut u64) -> (u32, u32) {
     let n = tour.size();
     let k = draw_below(state, n);
@@ -91,7 +91,7 @@ fn draw_cities(rt: &impl Abort, tour: &ArrayTour, state: &mut u64) -> (u32, u32)
     (a, c)
 }
 
-/// Makes flips in both, and answers how often the array was written as it is seen.
+/// Makes flips in both tours, checks that they agree, and returns how often the array of the segments was rewritten.
 fn flip_both(
     rt: &impl Abort,
     array: &mut ArrayTour,
@@ -117,7 +117,7 @@ fn flip_both(
     written
 }
 
-/// The list, seen through as few segments as the limit for exchanges allows.
+/// A tour in the order of the list, in as few segments as the limit for swaps allows.
 pub fn segments_of(rt: &impl Abort, alloc: Global, cities: &[u32], short: u32) -> SegmentTour {
     assert!(rt; 1 <= short && short <= 3000);
     let least = (short as usize + 1) / 2;
@@ -126,7 +126,7 @@ pub fn segments_of(rt: &impl Abort, alloc: Global, cities: &[u32], short: u32) -
     SegmentTour::with_limits(alloc, cities, short, most as u32).expect(rt, "a tour")
 }
 
-/// The same with these limits for exchanges.
+/// Like `flip_both`, for n shuffled cities and each of these limits for swaps.
 fn flips_by_limits(rt: &impl Abort, alloc: Global, n: u32, limits: &[u32], flips: u32) -> u32 {
     let mut written = 0u32;
     for short in limits {
@@ -154,7 +154,7 @@ fn as_in_an_array(rt: HostRuntime) {
     assert!(rt; written > 100);
 }
 
-/// Flips of so many cities, with the limits that a tour has where none are given.
+/// Makes flips of n cities in tours with the default limits, and checks that they agree.
 fn flip_by_usual_limits(rt: &impl Abort, alloc: Global, n: u32) {
     let mut state = n as u64;
     let cities = shuffled(rt, alloc, n, &mut state);
@@ -177,12 +177,12 @@ fn cities_of<S: UndoStore>(rt: &impl Abort, alloc: Global, tour: &S) -> Vec<u32>
     cities
 }
 
-/// The cities of a tour are these, in this order.
+/// Checks that the cities of a tour are these, in this order.
 fn expect_order<S: UndoStore>(rt: &impl Abort, alloc: Global, tour: &S, want: &[u32]) {
     assert!(rt; cities_of(rt, alloc, tour).as_slice() == want);
 }
 
-/// A list that is seen through at most so many segments, with a journal. Each flip turns segments round.
+/// A tour in the order of the list, in at most `most` segments, with a journal. Each flip reverses segments.
 fn journal_of_segments(
     rt: &impl Abort,
     alloc: Global,
@@ -195,7 +195,7 @@ fn journal_of_segments(
     journal_of(rt, alloc, segments, slots)
 }
 
-/// Makes three flips, of which a journal of two loses one.
+/// Makes three flips, one of which does not fit into a journal of two.
 fn lose_flips(rt: &impl Abort, tour: &mut JournalTour<SegmentTour>) {
     for (a, c) in [(6, 4), (3, 2), (8, 5)] {
         let _ = flip_after(rt, tour, a, c);
@@ -204,7 +204,7 @@ fn lose_flips(rt: &impl Abort, tour: &mut JournalTour<SegmentTour>) {
     assert!(rt; tour.tour().segments() > 1);
 }
 
-/// Takes the order of a list where flips were lost.
+/// Restores the order of a tour in which flips were lost.
 fn restore(rt: &impl Abort, tour: &mut JournalTour<SegmentTour>, start: &ArrayTour) {
     assert!(rt; tour.size() == start.size());
     tour.restore(start);
@@ -244,7 +244,7 @@ fn flip_some<S: TourStore>(rt: &impl Abort, tour: &mut S, flips: u32, state: &mu
     }
 }
 
-/// A rewind leaves no more segments than there were, and the cities in their order.
+/// Checks that a rewind restores the order of the cities, and leaves no more segments than there were.
 fn expect_undone(
     rt: &impl Abort,
     alloc: Global,
@@ -261,7 +261,7 @@ fn expect_undone(
     }
 }
 
-/// The same after flips that are kept, of so many cities in a random order.
+/// Like `expect_undone`, for n cities in a random order, after flips that are kept.
 fn expect_undone_after(rt: &impl Abort, alloc: Global, n: u32) {
     let mut state = n as u64;
     let cities = shuffled(rt, alloc, n, &mut state);

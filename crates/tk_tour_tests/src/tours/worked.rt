@@ -17,7 +17,7 @@ pub fn flip_after<S: TourStore>(rt: &impl Abort, tour: &mut S, a: u32, c: u32) -
     tour.flip(a, b, c, d)
 }
 
-/// This flip was made, with one swap, and led to this order; undone, it leads back.
+/// Checks that this flip was made with one swap and led to this order, and that undoing it leads back.
 fn expect_undone(rt: &impl Abort, tour: &mut ArrayTour, flip: Flip, order: &[u32], cities: &[u32]) {
     assert!(rt; tour.order() == order && tour.swaps() == 1 && tour.flips() == 1);
     let n = tour.size();
@@ -26,7 +26,7 @@ fn expect_undone(rt: &impl Abort, tour: &mut ArrayTour, flip: Flip, order: &[u32
     assert!(rt; tour.order() == cities && tour.swaps() == 1 && tour.undo_swaps() == 1);
 }
 
-/// This flip is made after a and c, which takes one swap and leads to this order; undone, it leads back.
+/// Checks that this flip is made after a and c, takes one swap and leads to this order, and that undoing it leads back.
 fn expect_flip(
     rt: &impl Abort,
     alloc: Global,
@@ -99,7 +99,7 @@ fn shows_faults(rt: HostRuntime) {
     }
 }
 
-/// A tour of four cities takes the order of another.
+/// Checks that a tour of four cities takes the order of another.
 fn expect_copied(rt: &impl Abort, tour: &mut ArrayTour, other: &ArrayTour) {
     assert!(rt; tour.size() == 4);
     assert!(rt; other.size() == 4);
@@ -116,19 +116,19 @@ fn copies(rt: HostRuntime) {
     assert!(rt; tour.order() == [4, 2, 1, 3].as_slice());
 }
 
-/// Whether the cities stand in this order.
+/// Whether the cities are in this order.
 fn stands(tour: &JournalTour<ArrayTour>, want: &[u32]) -> bool {
     tour.tour().order() == want
 }
 
-/// Two flips of eight cities in their own order, from after 1 to 7 and from after 2 to 4.
+/// Makes two flips of eight cities in the order of their numbers: from after 1 to 7, and from after 2 to 4.
 fn flip_twice(rt: &impl Abort, tour: &mut JournalTour<ArrayTour>) {
     let _ = flip_after(rt, tour, 1, 7);
     let _ = flip_after(rt, tour, 2, 4);
     assert!(rt; stands(tour, &[8, 2, 4, 3, 5, 6, 7, 1]) && tour.flips() == 2);
 }
 
-/// A rewind undoes both flips.
+/// Checks that a rewind undoes both flips.
 fn expect_rewound(rt: &impl Abort, tour: &mut JournalTour<ArrayTour>) {
     flip_twice(rt, tour);
     assert!(rt; tour.rewind() && tour.flips() == 0 && stands(tour, &EIGHT));
@@ -145,7 +145,7 @@ fn rewinds(rt: HostRuntime) {
     assert!(rt; tour.rewind() && stands(&tour, &[8, 2, 3, 4, 5, 6, 7, 1]));
 }
 
-/// A tour whose journal lost a flip is not rewound, but takes the order where it began.
+/// Checks that a tour whose journal lost a flip takes the order in which it began.
 fn expect_restored(rt: &impl Abort, tour: &mut JournalTour<ArrayTour>, start: &ArrayTour) {
     assert!(rt; tour.size() == 8);
     assert!(rt; start.size() == 8);
