@@ -1,5 +1,5 @@
--- Examples of parameter texts: what they ask for, what is wrong with them and on which line, and what their beginnings
--- decide.
+-- Examples of parameter texts: their parameters, their faults and the lines of these, and the answers that beginnings
+-- of texts decide.
 use Rattle.std.specs.Prelude.{◌≡◌, ℕ, true, false, List, [], ◌∷◌, ◌++◌, map, Option, Some, None, Ok, Err, codes}
 use Rattle.std.specs.Prelude.{replicate}
 use Rattle.tk_text.specs.Texts.{answer_of}
@@ -11,26 +11,26 @@ use Rattle.tk_params.specs.declared.value.Construction.TheVariants.{Nearest, Sav
 use Rattle.tk_engines.specs.Asked.{ParamsAre}
 use Rattle.tk_engines.specs.Params.{Answer, params_decided, params_texts}
 
--- a function gives what the table has beside each of its arguments
+-- a function returns the value that the table has next to each of its arguments
 abbrev pub HasTable : {A B : Type 0} → (A → B) → List (A × B) → Type 0
 HasTable f rows = map (λ row. f row.0) rows ≡ map (λ row. row.1) rows
 
 abbrev pub TextAnswer : Type 0
 TextAnswer = Option Answer
 
--- what a text says
+-- the answer to a text
 abbrev pub said_by : List ℕ → TextAnswer
 said_by text = params_decided true text
 
--- what all texts say that begin so
+-- the answer to all texts that begin with these bytes
 abbrev pub begun_by : List ℕ → TextAnswer
 begun_by text = params_decided false text
 
--- what a text says of which at most so many bytes are read
+-- the answer to a text of which at most `limit` bytes are read
 abbrev pub said_within : ℕ × List ℕ → Answer
 said_within (limit, text) = answer_of (record params_texts { limit = limit }) text
 
--- these parameters; a fault on this line; or nothing, since more bytes decide
+-- these parameters; a fault on this line; or no answer, since more bytes decide it
 abbrev pub asks : ParamsAre → TextAnswer
 asks p = Some (Ok p)
 
@@ -40,7 +40,7 @@ fault line kind = Some (Err (record { line = line; kind = kind }))
 abbrev pub undecided : TextAnswer
 undecided = None
 
--- the parameters of a text that names the problem's file alone
+-- the parameters of a text that names only the problem file
 abbrev pub only : List ℕ → ParamsAre
 only problem =
     record {
@@ -58,7 +58,7 @@ only problem =
       ignored = [];
     }
 
--- a text whose first line names the problem's file p, and its parameters
+-- a text whose first line names the problem file p, and its parameters
 abbrev pub after_p : List ℕ → List ℕ
 after_p text = codes "PROBLEM_FILE = p\n" ++ text
 
@@ -84,10 +84,10 @@ key_words =
     ∷ (codes "PRECISION", Some keys.Precision)
     ∷ (codes "TRACE_LEVEL", Some keys.TraceLevel)
     ∷ (codes "OPTIMUM", Some keys.Optimum)
-    -- without regard to case
+    -- in capital and small letters
     ∷ (codes "ProBLem_fIle", Some keys.ProblemFile)
     ∷ (codes "optimum", Some keys.Optimum)
-    -- no keys
+    -- words that are not keys
     ∷ (codes "", None)
     ∷ (codes "FOO", None)
     ∷ (codes "RUN", None)
@@ -104,7 +104,7 @@ key_words =
 abbrev pub accepted : List (List ℕ × TextAnswer)
 accepted =
     (codes "PROBLEM_FILE = p", asks p)
-    -- blanks, one equals sign, and none; capitals
+    -- blanks, with and without an equals sign, capital and small letters
     ∷ (codes "problem_file p\n", asks p)
     ∷ (codes "ProBLem_fIle\t=\tp \r\n", asks p)
     ∷ (codes " PROBLEM_FILE=p", asks p)
@@ -112,7 +112,7 @@ accepted =
     ∷ (codes "PROBLEM_FILE\tp q \t.tsp\r\n", asks (only (codes "p q \t.tsp")))
     ∷ (codes "PROBLEM_FILE # p\n", asks (only (codes "# p")))
     ∷ (codes "PROBLEM_FILE = " ++ 195 ∷ 169 ∷ [], asks (only (195 ∷ 169 ∷ [])))
-    -- the least and the greatest value of each key
+    -- the minimum and the maximum of each key
     ∷ (after_p (codes "RUNS = 1"), asks (record p { runs = 1 }))
     ∷ (after_p (codes "RUNS = 10000\n"), asks (record p { runs = 10000 }))
     ∷ (after_p (codes "MAX_TRIALS = 1\n"), asks (record p { max_trials = Some 1 }))
@@ -141,7 +141,7 @@ accepted =
     )
     -- lines that are skipped
     ∷ (after_p (codes "\n \t\r\n# RUNS = 0\n  # $\nCOMMENT\nCOMMENT = $\ncomment = x"), asks p)
-    -- keys that are not used, in their order; their values are not looked at
+    -- keys that are not used, in their order; their values do not matter
     ∷ (
       codes "# c\nMOVE_TYPE = 5\nPROBLEM_FILE = p\nRUNS = 1\n",
       asks (record p { runs = 1; ignored = keys.MoveType ∷ [] }),
@@ -154,7 +154,7 @@ accepted =
             ∷ keys.MoveType ∷ [];
       }),
     )
-    -- after EOF nothing is of the text
+    -- nothing after EOF belongs to the text
     ∷ (after_p (codes "EOF"), asks p)
     ∷ (after_p (codes " eof\nFOO = 1\n"), asks p)
     ∷ (after_p (codes "EOF = 1\nRUNS = 0"), asks p)
@@ -175,7 +175,7 @@ value_faults =
     ∷ (codes "OR_SEGMENT = 0", fault 1 kinds.BadValue)
     ∷ (codes "OR_SEGMENT = 4", fault 1 kinds.BadValue)
     ∷ (codes "SEED = 99999999999999999999", fault 1 kinds.BadValue)
-    -- no integer, or more than one
+    -- no integer, or more than one integer
     ∷ (codes "RUNS", fault 1 kinds.BadValue)
     ∷ (codes "RUNS = ", fault 1 kinds.BadValue)
     ∷ (codes "RUNS = x", fault 1 kinds.BadValue)
@@ -186,14 +186,14 @@ value_faults =
     ∷ (codes "SEED = 1:", fault 1 kinds.BadValue)
     ∷ (codes "MAX_TRIALS = 1e3", fault 1 kinds.BadValue)
     ∷ (codes "OR_SEGMENT = 1 # c", fault 1 kinds.BadValue)
-    -- none of the choices
+    -- values that are not one of the choices
     ∷ (codes "CONSTRUCTION = GREEDY", fault 1 kinds.BadValue)
     ∷ (codes "CONSTRUCTION = NEAR", fault 1 kinds.BadValue)
     ∷ (codes "CONSTRUCTION", fault 1 kinds.BadValue)
     ∷ (codes "FINAL_SWEEP = Y", fault 1 kinds.BadValue)
     ∷ (codes "FINAL_SWEEP = 1", fault 1 kinds.BadValue)
     ∷ (codes "FINAL_SWEEP = YES NO", fault 1 kinds.BadValue)
-    -- file names that are empty or no UTF-8
+    -- file names that are empty or not UTF-8
     ∷ (codes "PROBLEM_FILE", fault 1 kinds.BadValue)
     ∷ (codes "PROBLEM_FILE = \t\r", fault 1 kinds.BadValue)
     ∷ (codes "TOUR_FILE =", fault 1 kinds.BadValue)
@@ -206,7 +206,7 @@ value_faults =
     ∷ (codes "TOUR_FILE = $", fault 1 kinds.DollarInName)
     ∷ (codes "SOLUTION_FILE = $s\n", fault 1 kinds.DollarInName)
     ∷ (codes "INITIAL_TOUR_FILE t$", fault 1 kinds.DollarInName)
-    -- the first byte that is no letter; words that are no keys
+    -- lines that do not begin with a letter, and words that are not keys
     ∷ (codes "1 = 1", fault 1 kinds.UnknownKey)
     ∷ (codes "= p", fault 1 kinds.UnknownKey)
     ∷ (codes "-1", fault 1 kinds.UnknownKey)
@@ -222,20 +222,20 @@ value_faults =
 
 abbrev pub fault_orders : List (List ℕ × TextAnswer)
 fault_orders =
-    -- a key comes a second time
+    -- repeated keys
     (codes "SEED = 1\nSEED = 1\n", fault 2 kinds.RepeatedKey)
     ∷ (codes "PROBLEM_FILE = p\n\n\tproblem_file = q", fault 3 kinds.RepeatedKey)
     ∷ (codes "MOVE_TYPE = 5\nPROBLEM_FILE = p\nmove_type = 5", fault 3 kinds.RepeatedKey)
-    -- at one line: RepeatedKey, DollarInName, BadValue
+    -- on one line: RepeatedKey before DollarInName before BadValue
     ∷ (codes "RUNS = 1\nRUNS = 0\n", fault 2 kinds.RepeatedKey)
     ∷ (codes "TOUR_FILE = t\nTOUR_FILE = a$b\n", fault 2 kinds.RepeatedKey)
     ∷ (codes "PROBLEM_FILE = $" ++ 255 ∷ [], fault 1 kinds.DollarInName)
     ∷ (codes "OPTIMUM\nOPTIMUM\n", fault 2 kinds.RepeatedKey)
-    -- of two lines the first
+    -- of two lines with a fault, the first one counts
     ∷ (codes "RUNS = 0\nFOO = 1\n", fault 1 kinds.BadValue)
     ∷ (codes "FOO = 1\nRUNS = 0\n", fault 1 kinds.UnknownKey)
     ∷ (codes "RUNS = 0\nEOF\n", fault 1 kinds.BadValue)
-    -- the problem's file is missing: at EOF, or at the end
+    -- the problem file is missing: at EOF, or at the end
     ∷ (codes "", fault 1 kinds.MissingProblem)
     ∷ (codes "\n\n", fault 3 kinds.MissingProblem)
     ∷ (codes "RUNS = 1", fault 1 kinds.MissingProblem)
@@ -291,7 +291,7 @@ lengths =
     ∷ (codes "OPTIMUM = " ++ replicate 4086 120, fault 1 kinds.MissingProblem)
     ∷ (codes "OPTIMUM = " ++ replicate 4087 120, fault 1 kinds.TooLong)
     ∷ (codes "SEED = 1\nSEED =" ++ replicate 4092 32, fault 2 kinds.TooLong)
-    -- of the line of EOF, the bytes up to its end
+    -- on the line of EOF, the bytes up to the end of EOF count
     ∷ (replicate 4093 32 ++ codes "EOF = 1", fault 1 kinds.MissingProblem)
     ∷ (replicate 4094 32 ++ codes "EOF", fault 1 kinds.TooLong)
     ∷ (after_p (codes "EOF" ++ replicate 4096 32), asks p)
@@ -302,7 +302,7 @@ beginnings =
     (codes "", undecided)
     ∷ (codes "PROBLEM_FILE = p", undecided)
     ∷ (codes "PROBLEM_FILE = p\n", undecided)
-    -- of a line without its end only its length is told
+    -- of a line without its end, only the length can be a fault
     ∷ (codes "FOO = 1", undecided)
     ∷ (codes "FOO = 1\n", fault 1 kinds.UnknownKey)
     ∷ (replicate 65 65, undecided)

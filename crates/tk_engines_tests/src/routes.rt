@@ -1,3 +1,3 @@
-//! Routes: the check of claimed ones, and those that are found.
+//! Routes: the check of solutions, and the routes that are found.
 pub mod claims;
 pub mod improved;

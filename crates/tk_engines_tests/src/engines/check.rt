@@ -5,7 +5,7 @@ use tk_engines::{Fault, check_engine};
 use tk_text::{FromRead, ToWrite};
 use tk_tour::Verdict;
 
-/// What the engine answers and what it writes.
+/// The answer of the engine, and the text that it writes.
 fn checked(alloc: Global, problem: &[u8], tour: &[u8]) -> (Result<Verdict, Fault>, Vec<u8>) {
     let mut problem = FromRead::new(problem);
     let mut tour = FromRead::new(tour);

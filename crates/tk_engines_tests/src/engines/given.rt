@@ -1,4 +1,4 @@
-//! Texts that engines are given, and what is expected of their answers.
+//! Input texts of engines, and a check of their answers.
 use std::process::Abort;
 use tk_engines::Fault;
 use tk_text::{TextFault, TextKind};
@@ -8,7 +8,7 @@ pub const SQUARE: &[u8] =
     b"NAME : p\nTYPE : TSP\nDIMENSION : 4\nEDGE_WEIGHT_TYPE : EUC_2D\nNODE_COORD_SECTION\n1 0 0\n2 10 10\n3 10 0\n\
     4 0 10\nEOF\n";
 
-/// Four customers about a depot, and room for all of them.
+/// Four customers around a depot, and a vehicle with room for all of them.
 pub const BAKERY: &[u8] =
     b"TYPE : CVRP\nDIMENSION : 5\nCAPACITY : 4\nEDGE_WEIGHT_TYPE : EXPLICIT\nEDGE_WEIGHT_FORMAT : UPPER_ROW\n\
     EDGE_WEIGHT_SECTION\n10 10 10 10\n10 11 11\n12 19\n20\nDEMAND_SECTION\n1 0\n2 1\n3 1\n4 1\n5 1\nDEPOT_SECTION\n1\n\
@@ -17,7 +17,7 @@ pub const BAKERY: &[u8] =
 /// A tour of four cities.
 pub const TOUR: &[u8] = b"TYPE : TOUR\nTOUR_SECTION\n1 2 3 4 -1\n";
 
-/// A text of no type that is read, and its fault.
+/// A text of an unsupported type, and its fault.
 pub const UNSUPPORTED: &[u8] = b"TYPE : ATSP\n";
 
 pub const AT_THE_TYPE: TextFault = TextFault {
@@ -25,7 +25,7 @@ pub const AT_THE_TYPE: TextFault = TextFault {
     kind: TextKind::Unsupported,
 };
 
-/// An engine has answered this, and written this text.
+/// Checks that an engine has this answer, and has written this text.
 pub fn expect<T: PartialEq + Drop>(
     rt: &impl Abort,
     (answer, written): (Result<T, Fault>, Vec<u8>),

@@ -5,7 +5,7 @@ use std::test::Fail;
 use tk_engines::{Fault, matrix_engine};
 use tk_text::{Format, FromRead, ToWrite};
 
-/// What the engine answers and what it writes.
+/// The answer of the engine, and the text that it writes.
 fn matrix(alloc: Global, problem: &[u8]) -> (Result<(), Fault>, Vec<u8>) {
     let mut problem = FromRead::new(problem);
     let mut out = ToWrite::new(Vec::new(alloc));

@@ -4,7 +4,7 @@ use std::alloc::Global;
 use tk_engines::{Fault, near_engine};
 use tk_text::{FromRead, ToWrite};
 
-/// What the engine answers and what it writes for lists of 100 cities.
+/// The answer of the engine for near lists of 100 cities, and the text that it writes.
 fn lists(alloc: Global, problem: &[u8]) -> (Result<(), Fault>, Vec<u8>) {
     let mut problem = FromRead::new(problem);
     let mut out = ToWrite::new(Vec::new(alloc));

@@ -5,7 +5,7 @@ use tk_engines::{Fault, route_check_engine};
 use tk_routes::RouteVerdict;
 use tk_text::{FromRead, Keyword, TextFault, TextKind, ToWrite};
 
-/// What the engine answers and what it writes.
+/// The answer of the engine, and the text that it writes.
 fn checked(
     alloc: Global,
     problem: &[u8],
@@ -31,7 +31,7 @@ fn tells_a_verdict(rt: HostRuntime) {
     );
 }
 
-/// A problem without a routing is told before the solution is read.
+/// A problem without a routing is reported before the solution is read.
 #[test]
 fn writes_nothing_on_a_fault(rt: HostRuntime) {
     let solution = b"Route #1: 1 2\n";

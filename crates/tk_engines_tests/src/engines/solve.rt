@@ -6,13 +6,13 @@ use tk_engines::{Fault, Key, Params, Unwatched, read_params, solve_engine};
 use tk_text::{FromRead, Sink, ToWrite, WriteFault};
 use tk_tour::TourFault;
 
-/// What parameters ask for.
+/// The parameters of this text.
 fn params_of(rt: &impl Abort, alloc: Global, text: &[u8]) -> Params {
     let mut text = FromRead::new(text);
     read_params(alloc, &mut text).expect(rt, "parameters")
 }
 
-/// What the engine answers for these texts. It writes to the two sinks.
+/// The answer of the engine to these texts. It writes to the two sinks.
 fn solve<F: Sink, W: Sink>(
     alloc: Global,
     params: &Params,
@@ -34,7 +34,7 @@ fn solve<F: Sink, W: Sink>(
     )
 }
 
-/// What the engine answers, what it writes to the file, and the lines that it writes after it.
+/// The answer of the engine, the text that it writes to the file, and the lines that it writes after it.
 #[derive(Drop)]
 struct Solved {
     answer: Result<(), Fault>,
@@ -42,7 +42,7 @@ struct Solved {
     lines: Vec<u8>,
 }
 
-/// What the engine gives for parameters, a problem and a tour to begin with.
+/// Runs the engine on parameters, a problem and an initial tour.
 fn answer_to(rt: &impl Abort, alloc: Global, [params, problem, initial]: [&[u8]; 3]) -> Solved {
     let params = params_of(rt, alloc, params);
     let mut file = ToWrite::new(Vec::new(alloc));
@@ -55,7 +55,7 @@ fn answer_to(rt: &impl Abort, alloc: Global, [params, problem, initial]: [&[u8];
     }
 }
 
-/// The engine answers this, and writes these two texts.
+/// Checks that the engine has this answer, and has written these two texts.
 fn expect(rt: &impl Abort, solved: &Solved, want: Result<(), Fault>, [file, lines]: [&[u8]; 2]) {
     assert!(rt; solved.answer == want);
     assert!(rt; solved.file.as_slice() == file);
@@ -65,7 +65,7 @@ fn expect(rt: &impl Abort, solved: &Solved, want: Result<(), Fault>, [file, line
 const FROM_A_TOUR: &[u8] =
     b"PROBLEM_FILE = p\nINITIAL_TOUR_FILE = i\nMAX_CANDIDATES = 3\nRUNS = 1\nMOVE_TYPE = 5\n";
 
-/// A tour that has city 2 twice.
+/// A list that contains city 2 twice.
 const REPEATED: &[u8] = b"TYPE : TOUR\nTOUR_SECTION\n1 2 2 5 -1\n";
 
 #[test]
@@ -94,7 +94,7 @@ fn writes_routes_and_their_costs(rt: HostRuntime) {
     );
 }
 
-/// A key that does not fit is told before the tour to begin with is read.
+/// A key that does not apply is reported before the initial tour is read.
 #[test]
 fn writes_nothing_on_a_fault(rt: HostRuntime) {
     let routes: &[u8] = b"PROBLEM_FILE = p\nINITIAL_TOUR_FILE = i\nSOLUTION_FILE = s\n";
@@ -112,7 +112,7 @@ fn writes_nothing_on_a_fault(rt: HostRuntime) {
     );
 }
 
-/// Nothing is printed where the tour could not be written.
+/// Nothing is printed if the tour could not be written.
 #[test]
 fn writes_the_tour_first(rt: HostRuntime) {
     let params = params_of(&rt, rt.alloc(), b"PROBLEM_FILE = p\n");

@@ -1,10 +1,10 @@
-//! Parameters that are given key by key.
+//! Parameters that are built key by key.
 
 use std::alloc::Global;
 use std::process::Abort;
 use tk_engines::{Construction, Key, ParamKind, Params, ParamsBuilder, key_of};
 
-/// Parameters of these keys.
+/// The parameters of these keys and values.
 fn built(alloc: Global, settings: &[(Key, &[u8])]) -> Result<Option<Params>, ParamKind> {
     let mut builder = ParamsBuilder::new(alloc);
     for (key, value) in settings {
@@ -13,7 +13,7 @@ fn built(alloc: Global, settings: &[(Key, &[u8])]) -> Result<Option<Params>, Par
     Ok(builder.build())
 }
 
-/// The numbers of the search are these.
+/// Checks the numbers of the search.
 pub fn expect_numbers<A: Abort>(rt: &A, params: &Params, numbers: [u32; 5]) {
     let [runs, trials, seed, candidates, segment] = numbers;
     assert!(rt; params.runs() == runs);
@@ -23,7 +23,7 @@ pub fn expect_numbers<A: Abort>(rt: &A, params: &Params, numbers: [u32; 5]) {
     assert!(rt; params.or_segment() == segment);
 }
 
-/// The names of files are taken as they are, and a key that is ignored is told.
+/// Checks that the names of files are taken as they are, and that a key that is ignored is listed.
 fn expect_words<A: Abort>(rt: &A, params: &Params) {
     assert!(rt; params.problem_file() == " a ");
     assert!(rt; params.tour_file() == Some("b"));

@@ -1,6 +1,6 @@
-//! The definition of parameter texts, computed at the examples of the tables in `specs/ParamExamples.antt`.
-//! Each clause says that a definition gives what a table has beside its arguments. The prover
-//! computes it: there is nothing to run.
+//! Tests of the definition of parameter texts, by the tables in `specs/ParamExamples.antt`. Each clause states that a
+//! definition returns the value that a table has next to its argument. The prover computes it; the functions do
+//! nothing.
 ghost use Rattle.tk_engines.specs.Keys.{key_of};
 ghost use Rattle.tk_engines_tests.specs.ParamExamples.{HasTable, begun_by, said_by, said_within};
 ghost use Rattle.tk_engines_tests.specs.ParamExamples as Tables;

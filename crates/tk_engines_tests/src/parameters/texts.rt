@@ -1,4 +1,4 @@
-//! Parameter files that are read where memory is ample: each key, the defaults, and a fault of each kind.
+//! Parameter files that are read with enough memory: each key, the defaults, and a fault of each kind.
 ghost use Rattle.std.specs.Prelude.{None, false};
 
 use crate::parameters::built::expect_numbers;
@@ -9,7 +9,7 @@ use tk_engines::{
 };
 use tk_text::{Failed, FromRead, Source};
 
-/// Gives its bytes one by one, and then fails where it is told to.
+/// Returns its bytes one by one. After the last one, it fails if `fails` is true.
 #[derive(Drop)]
 struct Drip<'a> {
     bytes: &'a [u8],
@@ -47,7 +47,7 @@ impl<'a> Source for Drip<'a> {
     }
 }
 
-/// Reads a text byte by byte, from a source that may fail after its last byte.
+/// Reads a text byte by byte, from a source that fails after its last byte if `fails` is true.
 fn read_dripping(alloc: Global, text: &[u8], fails: bool) -> Result<Params, ParamFault> {
     let mut source = Drip {
         bytes: text,
@@ -63,7 +63,7 @@ fn read(alloc: Global, text: &[u8]) -> Result<Params, ParamFault> {
     read_params(alloc, &mut source)
 }
 
-/// The names of the files are these.
+/// Checks the names of the files.
 fn expect_files<A: Abort>(rt: &A, params: &Params, problem: &str, others: [&str; 3]) {
     let [tour, solution, initial] = others;
     assert!(rt; params.problem_file() == problem);
@@ -94,7 +94,7 @@ fn shows_a_key_as_its_word(rt: HostRuntime) {
     assert!(rt; shown.as_str() == "ignored MOVE_TYPE");
 }
 
-/// A text has this fault, read at once and byte by byte.
+/// Checks that a text, read at once and byte by byte, has this fault.
 fn refuse<A: Abort>(rt: &A, alloc: Global, text: &[u8], line: u64, kind: ParamKind) {
     let fault = Some(ParamFault { line, kind });
     assert!(rt; read(alloc, text).err() == fault);
@@ -118,7 +118,7 @@ fn refuses_what_is_no_setting(rt: HostRuntime) {
     }
 }
 
-/// A byte many times.
+/// A text of `count` equal bytes.
 fn repeated(alloc: Global, byte: u8, count: usize) -> Result<Vec<u8>, AllocError> {
     let mut text = Vec::new(alloc);
     for _ in 0..count {
@@ -140,7 +140,7 @@ fn refuses_what_is_too_long(rt: HostRuntime) {
     }
 }
 
-/// Gives line feeds without end.
+/// Returns line feeds without end.
 #[derive(Drop)]
 struct LineFeeds;
 
@@ -159,7 +159,7 @@ impl Source for LineFeeds {
     }
 }
 
-/// A source without an end is stopped at the limit of a text.
+/// An endless source is read only up to the limit of a text.
 #[test]
 fn stops_at_the_limit(rt: HostRuntime) {
     let fault = read_params(rt.alloc(), &mut LineFeeds).err();
@@ -170,7 +170,7 @@ fn stops_at_the_limit(rt: HostRuntime) {
     assert!(rt; fault == too_long);
 }
 
-/// A fault of the source is told where the text does not end before it.
+/// The failure of a source is reported if the text does not end before it.
 #[test]
 fn tells_a_fault_of_the_source(rt: HostRuntime) {
     let fault = read_dripping(rt.alloc(), b"PROBLEM_FILE = p\nRUNS", true).err();

@@ -6,7 +6,7 @@ use tk_routes::RouteVerdict;
 use tk_text::{TextFault, TextKind};
 use tk_tour::Verdict;
 
-/// The rectangle is 3 wide and 4 high, so its right side stands at three quarters of the height, in the middle.
+/// The rectangle is 3 wide and 4 high. Its right side is at three quarters of the height, and it is centred.
 const CITIES: &[u8] = b"<svg xmlns=\"http://www.w3.org/2000/svg\" viewBox=\"0 0 1040 1080\">
 <title>a&lt;b &amp; &quot;c&quot;?\xc3\xa9: 4 cities</title>
 <rect width=\"100%\" height=\"100%\" fill=\"white\"/>
@@ -47,7 +47,7 @@ M0,0h0
 </svg>
 ";
 
-/// The places are in one line, 3 wide. The second customer is the third node.
+/// The points are on one line, 3 wide. The second customer is the third node.
 pub const ROUTES: &[u8] = b"<svg xmlns=\"http://www.w3.org/2000/svg\" viewBox=\"0 0 1040 280\">
 <title>shop: 2 routes, cost 6</title>
 <rect width=\"100%\" height=\"100%\" fill=\"white\"/>
@@ -76,7 +76,7 @@ M10000,0h0
 </svg>
 ";
 
-/// The engine answers this, draws this, and tells this of a fault.
+/// Checks the answer of the engine, the picture, and the line with a fault.
 fn expect(
     rt: &impl Abort,
     given: &Given,
@@ -133,7 +133,7 @@ fn tells_the_fault_of_routes(rt: HostRuntime) {
     expect(&rt, &given, Ok(over), b"", b"over capacity in route 1: 3\n");
 }
 
-/// A problem without places is told before the tour is read.
+/// A problem without coordinates is reported before the tour is read.
 #[test]
 fn writes_nothing_on_a_faulty_text(rt: HostRuntime) {
     let alloc = rt.alloc();
@@ -153,7 +153,7 @@ fn writes_nothing_on_a_faulty_text(rt: HostRuntime) {
     expect_fault(&rt, plotted(alloc, SHOP, Some(bad)), Fault::Solution(fault));
 }
 
-/// The engine answers this fault, and writes nothing.
+/// Checks that the engine has this fault, and writes nothing.
 fn expect_fault(rt: &impl Abort, given: Given, fault: Fault) {
     expect(rt, &given, Err(fault), b"", b"");
 }

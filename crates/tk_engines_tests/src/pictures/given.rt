@@ -1,9 +1,9 @@
-//! What the engine is given, and what it gives.
+//! Inputs and outputs of the engine.
 use std::alloc::Global;
 use tk_engines::{Fault, Form, Plotted, plot_engine};
 use tk_text::{FromRead, ToWrite};
 
-/// What the engine answers, what it draws, and what it tells of a fault.
+/// The answer of the engine, the picture that it draws, and the line with a fault that it writes.
 #[derive(Drop)]
 pub struct Given {
     pub answer: Result<Plotted, Fault>,
@@ -21,17 +21,17 @@ pub const SHOP: &[u8] =
     b"NAME : shop\nTYPE : CVRP\nDIMENSION : 3\nCAPACITY : 2\nEDGE_WEIGHT_TYPE : EUC_2D\nNODE_COORD_SECTION\n1 -1 7\n\
     2 1 7\n3 2 7\nDEMAND_SECTION\n1 2\n2 0\n3 1\nDEPOT_SECTION\n2\n-1\nEOF\n";
 
-/// Two cities without places.
+/// Two cities without coordinates.
 pub const EXPLICIT: &[u8] =
     b"TYPE : TSP\nDIMENSION : 2\nEDGE_WEIGHT_TYPE : EXPLICIT\nEDGE_WEIGHT_FORMAT : UPPER_ROW\nEDGE_WEIGHT_SECTION\n1\n\
     EOF\n";
 
-/// What the engine gives for a problem and what is claimed of it, as a picture.
+/// Runs the engine on a problem and a tour or routes of it, for an SVG picture.
 pub fn plotted(alloc: Global, problem: &[u8], claim: Option<&[u8]>) -> Given {
     plotted_as(alloc, problem, claim, Form::Svg)
 }
 
-/// The same in a form.
+/// Like `plotted`, but in this format.
 pub fn plotted_as(alloc: Global, problem: &[u8], claim: Option<&[u8]>, form: Form<'_>) -> Given {
     let mut problem = FromRead::new(problem);
     let mut source = FromRead::new(claim.unwrap_or(b""));

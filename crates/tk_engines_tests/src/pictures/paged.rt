@@ -10,7 +10,7 @@ const PARTS: Parts<'static> = Parts {
     script: b"run();\n",
 };
 
-/// What comes before the picture.
+/// The text before the picture.
 const OPENING: &[u8] = b"<style>
 p {}
 </style>
@@ -21,7 +21,7 @@ p {}
 <div id=\"stage\">
 ";
 
-/// What comes after it. The first node is customer 1, and the third is customer 2.
+/// The text after the picture. The first node is customer 1, and the third is customer 2.
 const REST: &[u8] = b"</div>
 <div id=\"routes\">
 <table><caption>Routes, capacity 2</caption>

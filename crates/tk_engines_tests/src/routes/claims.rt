@@ -1,10 +1,10 @@
-//! Worked examples of the check.
+//! Worked examples of the check of routes.
 use std::alloc::{AllocError, Global};
 use std::test::Fail;
 use tk_routes::{Cvrp, RouteVerdict, check_routes};
 use tk_text::{FromRead, Problem, SolText, read_problem};
 
-/// Two customers on each side of the depot, and vehicles for two.
+/// Two customers on each side of the depot, and vehicles with room for two.
 pub(crate) const TWO_SIDES: &[u8] =
     b"NAME : v\nTYPE : CVRP\nDIMENSION : 5\nEDGE_WEIGHT_TYPE : EUC_2D\nCAPACITY : 2\nNODE_COORD_SECTION\n1 0 0\n\
     2 10 0\n3 11 0\n4 -10 0\n5 -11 0\nDEMAND_SECTION\n1 0\n2 1\n3 1\n4 1\n5 1\nDEPOT_SECTION\n1\n-1\nEOF\n";
@@ -21,7 +21,7 @@ pub(crate) fn problem_of(alloc: Global, text: &[u8]) -> Result<Problem, Fail> {
     Ok(read_problem(alloc, &mut FromRead::new(text))?)
 }
 
-/// Claimed routes of that cost.
+/// A solution with these routes and this cost.
 pub(crate) fn claim(alloc: Global, routes: &[&[u32]], cost: i64) -> Result<SolText, AllocError> {
     let mut lists = Vec::new(alloc);
     for route in routes {
@@ -33,7 +33,7 @@ pub(crate) fn claim(alloc: Global, routes: &[&[u32]], cost: i64) -> Result<SolTe
     })
 }
 
-/// The verdict of claimed routes of that cost.
+/// The verdict on these routes and this cost.
 fn judge(
     alloc: Global,
     cvrp: &Cvrp<'_>,
@@ -43,7 +43,7 @@ fn judge(
     check_routes(alloc, cvrp, &claim(alloc, routes, cost)?)
 }
 
-/// The same for a problem's text: none for that of a TSP.
+/// Like `judge`, but for a problem text; `None` if it is a TSP.
 fn verdict(
     alloc: Global,
     problem: &[u8],
@@ -57,7 +57,7 @@ fn verdict(
     Ok(Some(judge(alloc, &cvrp, routes, cost)?))
 }
 
-/// An empty route counts only where routes are numbered.
+/// An empty route counts only in the numbering of the routes.
 #[test]
 fn two_routes(rt: HostRuntime) -> Result<(), Fail> {
     let valid = Some(RouteVerdict::Valid {
@@ -71,8 +71,8 @@ fn two_routes(rt: HostRuntime) -> Result<(), Fail> {
     Ok(())
 }
 
-/// A fault among the customers comes before one of capacity, that before a customer who is not served, and that before
-/// the cost.
+/// A fault of a customer is reported before one of capacity, then a customer that is not served, and at last a wrong
+/// cost.
 #[test]
 fn first_faults(rt: HostRuntime) -> Result<(), Fail> {
     let faults: &[(&[&[u32]], RouteVerdict)] = &[

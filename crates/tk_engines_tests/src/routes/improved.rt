@@ -1,4 +1,4 @@
-//! Worked examples of routes: those of the savings merges, and those that become of them.
+//! Worked examples of routes: those of the savings algorithm, before and after they are improved.
 ghost use Rattle.std.specs.Prelude.{◌≡◌, IfOk};
 ghost use Rattle.tk_routes.specs.Cvrps.{instance_of};
 ghost use Rattle.tk_routes.specs.RouteLists.{instance_of_routes};
@@ -9,7 +9,7 @@ use std::test::Fail;
 use tk_metric::near_scan;
 use tk_routes::{Cvrp, RouteReport, RouteVerdict, Routes, check_routes, improve, savings};
 
-/// As `TWO_SIDES`, with vehicles for all.
+/// Like `TWO_SIDES`, but the vehicles have room for all customers.
 const ROOM_FOR_ALL: &[u8] =
     b"NAME : v\nTYPE : CVRP\nDIMENSION : 5\nEDGE_WEIGHT_TYPE : EUC_2D\nCAPACITY : 4\nNODE_COORD_SECTION\n1 0 0\n\
     2 10 0\n3 11 0\n4 -10 0\n5 -11 0\nDEMAND_SECTION\n1 0\n2 1\n3 1\n4 1\n5 1\nDEPOT_SECTION\n1\n-1\nEOF\n";
@@ -19,12 +19,12 @@ const LISTED: &[u8] =
     EDGE_WEIGHT_SECTION\n10 10 10 10\n10 11 11\n12 19\n20\nDEMAND_SECTION\n1 0\n2 1\n3 1\n4 1\n5 1\nDEPOT_SECTION\n1\n\
     -1\nEOF\n";
 
-/// Vehicles for two of three customers. Each pair saves 10.
+/// Three customers, and vehicles with room for two. Each pair saves 10.
 const EQUAL_PAIRS: &[u8] =
     b"TYPE : CVRP\nDIMENSION : 4\nCAPACITY : 2\nEDGE_WEIGHT_TYPE : EXPLICIT\nEDGE_WEIGHT_FORMAT : UPPER_ROW\n\
     EDGE_WEIGHT_SECTION\n10 10 10\n10 10\n10\nDEMAND_SECTION\n1 0\n2 1\n3 1\n4 1\nDEPOT_SECTION\n1\n-1\nEOF\n";
 
-/// The same, but that customers 1 and 2 save only 5 together.
+/// Like `EQUAL_PAIRS`, but customers 1 and 2 save only 5 together.
 const EQUAL_WITH_THE_LAST: &[u8] =
     b"TYPE : CVRP\nDIMENSION : 4\nCAPACITY : 2\nEDGE_WEIGHT_TYPE : EXPLICIT\nEDGE_WEIGHT_FORMAT : UPPER_ROW\n\
     EDGE_WEIGHT_SECTION\n10 10 10\n15 10\n10\nDEMAND_SECTION\n1 0\n2 1\n3 1\n4 1\nDEPOT_SECTION\n1\n-1\nEOF\n";
@@ -37,7 +37,7 @@ fn start<'a>(alloc: Global, cvrp: &Cvrp<'a>) -> Result<Routes<'a>, AllocError>
     savings(alloc, cvrp, &near)
 }
 
-/// Whether the routes are these, and cost this.
+/// Whether the routes are these, and have this cost.
 fn are(
     alloc: Global,
     cvrp: &Cvrp<'_>,
@@ -53,7 +53,7 @@ fn are(
     Ok(routes.lists() == text.routes.as_slice() && check_routes(alloc, cvrp, &text)? == valid)
 }
 
-/// What improving routes is to tell: the costs, then moves, tests and swaps.
+/// The expected report of improving routes: the costs, then moves, tests and swaps.
 fn report(before: i64, after: i64, [moves, tests, swaps]: [u64; 3]) -> RouteReport {
     RouteReport {
         before,
@@ -64,7 +64,7 @@ fn report(before: i64, after: i64, [moves, tests, swaps]: [u64; 3]) -> RouteRepo
     }
 }
 
-/// Whether the savings routes are these, and become those, with this report.
+/// Whether the savings routes are the first ones, and are improved to the second ones, with this report.
 fn become_those(
     alloc: Global,
     cvrp: &Cvrp<'_>,
@@ -80,7 +80,7 @@ fn become_those(
     Ok(told == want && are(alloc, cvrp, &routes, improved, want.after)?)
 }
 
-/// The same of a problem's text.
+/// Like `become_those`, for a problem text.
 fn solves(
     alloc: Global,
     problem: &[u8],
@@ -95,8 +95,8 @@ fn solves(
     Ok(become_those(alloc, &cvrp, saved, improved, want)?)
 }
 
-/// Nothing is gained on two short routes: each has three nodes with two candidates and three tests for each. Routes
-/// that save nothing are not joined, whether or not there is room.
+/// Nothing is gained on two short routes: each has three nodes, with two candidates for each node and three tests for
+/// each candidate. Routes that save nothing are not joined, whether or not there is room.
 #[test]
 fn two_sides_of_the_depot(rt: HostRuntime) -> Result<(), Fail> {
     let told = report(44, 44, [0, 36, 0]);
@@ -122,7 +122,8 @@ fn depot_that_is_not_the_first_node(rt: HostRuntime) -> Result<(), Fail> {
     Ok(())
 }
 
-/// The depot's fourth test, of the segment of two that goes backward, gains 7; then come five looks of 26 tests each.
+/// The fourth test of the depot, which is of the segment of two that goes backward, gains 7. Then five looks of 26
+/// tests each follow.
 #[test]
 fn one_move_of_seven(rt: HostRuntime) -> Result<(), Fail> {
     let told = report(60, 53, [1, 134, 1]);
@@ -130,8 +131,8 @@ fn one_move_of_seven(rt: HostRuntime) -> Result<(), Fail> {
     Ok(())
 }
 
-/// Of equal savings the pair with the lower first customer is joined, and then the one with the lower second. A route
-/// of one customer takes four tests.
+/// Of pairs with equal savings, the one with the lower first customer is joined, and then the one with the lower second
+/// customer. A route of one customer takes four tests.
 #[test]
 fn equal_savings(rt: HostRuntime) -> Result<(), Fail> {
     let told = report(50, 50, [0, 22, 0]);
