@@ -14,7 +14,7 @@ use tk_metric::Near;
 use tk_routes::{Cvrp, RouteReport, RouteVerdict, Routes, check_routes, improve, savings};
 use tk_text::{Problem, SolText};
 
-/// The routes as they stand, claimed to have a cost.
+/// A solution with the current routes and this cost.
 fn claim(alloc: Global, routes: &Routes<'_>, cost: i64) -> Result<SolText, AllocError> {
     let mut lists = Vec::new(alloc);
     for route in routes.lists() {
@@ -26,7 +26,7 @@ fn claim(alloc: Global, routes: &Routes<'_>, cost: i64) -> Result<SolText, Alloc
     })
 }
 
-/// Whether the routes are valid, and of this cost.
+/// The verdict on the current routes and this cost.
 fn judge(
     alloc: Global,
     cvrp: &Cvrp<'_>,
@@ -36,7 +36,7 @@ fn judge(
     check_routes(alloc, cvrp, &claim(alloc, routes, cost)?)
 }
 
-/// Tells whether the routes are valid, and of this cost.
+/// Prints the verdict on the current routes and this cost.
 fn show_verdict(
     rt: &HostRuntime,
     cvrp: &Cvrp<'_>,
@@ -47,7 +47,7 @@ fn show_verdict(
     call!(rt, "check_routes", judge(alloc, cvrp, routes, cost))
 }
 
-/// Savings routes.
+/// Savings routes over these near lists.
 fn saved<'a>(rt: &HostRuntime, cvrp: &Cvrp<'a>, near: &Near) -> Result<Routes<'a>, Stopped>
     requires size { near.now.size ≡ (instance_of cvrp.now).size }
     ensures instance { IfOk result (λ routes. instance_of_routes routes ≡ instance_of cvrp.now) }
@@ -64,7 +64,7 @@ fn saved_over<'a>(rt: &HostRuntime, cvrp: &Cvrp<'a>, k: u32) -> Result<Routes<'a
     saved(rt, cvrp, &near)
 }
 
-/// Improves routes over five candidates of each node, by segments of at most three.
+/// Improves routes, with at most five candidates for each node and segments of at most three nodes.
 fn shorten(
     alloc: Global,
     cvrp: &Cvrp<'_>,
@@ -76,7 +76,7 @@ fn shorten(
     improve(alloc, cvrp, routes, 5, 3)
 }
 
-/// Improves the one savings route. Where that is refused, it has to be as before.
+/// Improves the only savings route. If memory runs out, it must be unchanged, and is improved by another call.
 fn improve_saved(
     rt: &HostRuntime,
     cvrp: &Cvrp<'_>,
@@ -93,7 +93,7 @@ fn improve_saved(
     Ok(shorten(rt.alloc(), cvrp, routes)?)
 }
 
-/// Improves a route that no move makes shorter.
+/// Improves a route that no move can shorten.
 fn improve_again(rt: &HostRuntime, cvrp: &Cvrp<'_>, routes: &mut Routes<'_>) -> Result<(), Stopped>
     requires instance { instance_of_routes routes.old ≡ instance_of cvrp.now }
 {
@@ -101,7 +101,7 @@ fn improve_again(rt: &HostRuntime, cvrp: &Cvrp<'_>, routes: &mut Routes<'_>) -> 
     call!(rt, "improve again", shorten(alloc, cvrp, routes))
 }
 
-/// Tells a savings route and improves it, with its verdicts, and then again, with no move left.
+/// Prints a savings route, improves it, and prints its verdicts. Then improves it again, with no move left.
 fn improve_twice(rt: &HostRuntime, cvrp: &Cvrp<'_>, routes: &mut Routes<'_>) -> Result<(), Stopped>
     requires instance { instance_of_routes routes.old ≡ instance_of cvrp.now }
 {
@@ -123,7 +123,7 @@ fn improve_one(rt: &HostRuntime, problem: &Problem) -> Result<(), Stopped> {
     improve_twice(rt, &cvrp, &mut routes)
 }
 
-/// Improves two routes. Where that is refused, each of them is as before or improved, the first one first.
+/// Improves two routes. If memory runs out, each of them is unchanged or improved; the first one is improved first.
 fn improve_both(
     rt: &HostRuntime,
     cvrp: &Cvrp<'_>,
@@ -138,7 +138,7 @@ fn improve_both(
     Ok(shorten(rt.alloc(), cvrp, routes)?)
 }
 
-/// Tells two savings routes and improves them, and then tells the cost and the routes.
+/// Prints two savings routes, improves them, and prints their cost and the routes.
 fn show_both_improved(
     rt: &HostRuntime,
     cvrp: &Cvrp<'_>,

@@ -10,7 +10,7 @@ pub const ROW: &[u8] =
     b"TYPE : TSP\nDIMENSION : 8\nEDGE_WEIGHT_TYPE : MAN_2D\nNODE_COORD_SECTION\n1 0 0\n2 1 0\n3 2 0\n4 3 0\n5 4 0\n\
     6 5 0\n7 6 0\n8 7 0\n";
 
-/// Five cities by their weights, for which a segment has to be moved.
+/// Five cities with explicit weights, for which a segment must be moved.
 pub const FIVE: &[u8] =
     b"TYPE : TSP\nDIMENSION : 5\nEDGE_WEIGHT_TYPE : EXPLICIT\nEDGE_WEIGHT_FORMAT : UPPER_ROW\nEDGE_WEIGHT_SECTION\n\
     10 1 10 10\n1 100 10\n10 10\n10\n";

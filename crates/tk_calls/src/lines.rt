@@ -2,13 +2,13 @@
 use crate::refusals::Stopped;
 use std::fmt::{Debug, Display};
 
-/// Tells a value.
+/// Prints a value.
 pub fn tell<V: Debug>(rt: &HostRuntime, name: &str, value: &V) -> Result<(), Stopped> {
     println!(rt; "{name}: {value:?}")?;
     Ok(())
 }
 
-/// Tells the value of a call, if it has one.
+/// Prints the value of a call, if it has one.
 pub fn tell_answer<V: Debug + Drop>(
     rt: &HostRuntime,
     name: &str,
@@ -17,13 +17,13 @@ pub fn tell_answer<V: Debug + Drop>(
     tell(rt, name, &answer?)
 }
 
-/// Tells of what a call that was refused memory changes, how it stands before the call is made again.
+/// Prints the state of what a call changes, if memory ran out, before the call is made again.
 pub fn tell_kept<V: Debug>(rt: &HostRuntime, name: &str, kept: &V) -> Result<(), Stopped> {
     println!(rt; "{name}: out of memory, {kept:?}")?;
     Ok(())
 }
 
-/// Tells a number of things.
+/// Prints a number of things.
 pub fn tell_number<N: Display>(
     rt: &HostRuntime,
     name: &str,
@@ -34,7 +34,7 @@ pub fn tell_number<N: Display>(
     Ok(())
 }
 
-/// Tells the cities of a tour in their order, and a number of things.
+/// Prints the cities of a tour in their order, and a number of things.
 pub fn tell_tour(
     rt: &HostRuntime,
     name: &str,
@@ -46,7 +46,7 @@ pub fn tell_tour(
     Ok(())
 }
 
-/// Prints a mark: between `built` and `done` no memory is asked for.
+/// Prints a mark. Between `built` and `done`, no memory is allocated.
 pub fn mark(rt: &HostRuntime, name: &str) -> Result<(), Stopped> {
     println!(rt; "{name}")?;
     Ok(())

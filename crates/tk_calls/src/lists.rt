@@ -8,7 +8,7 @@ use crate::refusals::Stopped;
 use tk_metric::{BothAxes, Metric, Near, Planar, Table, near_scan, near_sweep, near_tree};
 use tk_text::{CANDIDATE_LIMIT, Problem};
 
-/// Near lists by a scan, whose number and length are told.
+/// Near lists by a scan, whose number and length are printed.
 pub fn near_of<M: Metric>(rt: &HostRuntime, metric: &M, k: u32) -> Result<Near, Stopped>
     ensures size { IfOk result (λ near. near.size ≡ M.size_of metric.now) }
 {
@@ -21,18 +21,18 @@ pub fn near_of<M: Metric>(rt: &HostRuntime, metric: &M, k: u32) -> Result<Near, 
     Ok(near)
 }
 
-/// Tells the number and the length of lists by a scan.
+/// Prints the number and the length of near lists by a scan.
 fn show_sizes(rt: &HostRuntime, near: &Near) -> Result<(), Stopped> {
     println!(rt; "near_scan: {} lists of {}", near.size(), near.width())?;
     Ok(())
 }
 
-/// Tells the lists that a call answers, if it has an answer.
+/// Prints the near lists that a call returns, if it returns any.
 fn show_answer(rt: &HostRuntime, name: &str, answer: Result<Near, Stopped>) -> Result<(), Stopped> {
     show(rt, name, &answer?)
 }
 
-/// Tells the lists.
+/// Prints near lists.
 fn show(rt: &HostRuntime, name: &str, near: &Near) -> Result<(), Stopped> {
     print!(rt; "{name}:")?;
     for k in 0..near.size() {
@@ -42,7 +42,7 @@ fn show(rt: &HostRuntime, name: &str, near: &Near) -> Result<(), Stopped> {
     Ok(())
 }
 
-/// Lists of two by a scan.
+/// Finds near lists of two cities by a scan.
 fn scan<P: Planar>(rt: &HostRuntime, places: &P) -> Result<(), Stopped>
     requires { 2 < P.size_of places.now }
 {
@@ -54,7 +54,7 @@ fn scan<P: Planar>(rt: &HostRuntime, places: &P) -> Result<(), Stopped>
     )
 }
 
-/// Lists of two by a sweep.
+/// Finds near lists of two cities by a sweep.
 fn sweep<P: Planar>(rt: &HostRuntime, places: &P) -> Result<(), Stopped>
     requires { 2 < P.size_of places.now }
 {
@@ -66,7 +66,7 @@ fn sweep<P: Planar>(rt: &HostRuntime, places: &P) -> Result<(), Stopped>
     )
 }
 
-/// Lists of two by a tree.
+/// Finds near lists of two cities by a tree.
 fn search_tree<P: BothAxes>(rt: &HostRuntime, places: &P) -> Result<(), Stopped>
     requires { 2 < P.size_of places.now }
 {

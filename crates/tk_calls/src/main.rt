@@ -1,7 +1,7 @@
-//! Calls of the libraries for tests, which are made again if they are refused memory.
+//! Calls of the libraries for tests, which are made again if memory runs out.
 //!
-//! A call that is refused memory is told, and made again. `tests/refusals/calls` refuses one growth after another, and
-//! compares the lines.
+//! If memory runs out in a call, this is printed, and the call is made again. `tests/refusals/calls` makes one
+//! allocation after another fail, and compares the lines.
 #![tactic(auto)]
 
 mod improving;

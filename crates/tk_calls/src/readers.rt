@@ -12,7 +12,7 @@ fn read(alloc: Global, text: &[u8]) -> Result<Problem, TextFault> {
     read_problem(alloc, &mut FromRead::new(text))
 }
 
-/// A problem, whose size is told.
+/// A problem, whose size is printed.
 pub fn problem_of(rt: &HostRuntime, text: &[u8]) -> Result<Problem, Stopped> {
     let alloc = rt.alloc();
     let problem = again!(rt, "read_problem", read(alloc, text))?;
@@ -27,7 +27,7 @@ fn call_for_tour(rt: &HostRuntime) -> Result<(), Stopped> {
     tell(rt, "read_tour", &tour.cities)
 }
 
-/// Tells what a solution says.
+/// Prints the contents of a solution.
 fn show_solution(rt: &HostRuntime, solution: &SolText) -> Result<(), Stopped> {
     let SolText { routes, cost } = solution;
     println!(rt; "read_solution: {routes:?}, cost {cost}")?;
@@ -45,7 +45,7 @@ fn call_for_solution(rt: &HostRuntime) -> Result<(), Stopped> {
     show_solution(rt, &solution)
 }
 
-/// Tells some values of parameters.
+/// Prints some values of parameters.
 fn show_params(rt: &HostRuntime, params: &Params) -> Result<(), Stopped> {
     let (file, runs, ignored) = (params.problem_file(), params.runs(), params.ignored());
     println!(rt; "read_params: {file}, {runs} runs, {ignored:?} ignored")?;
@@ -63,7 +63,7 @@ fn call_for_params(rt: &HostRuntime) -> Result<(), Stopped> {
     show_params(rt, &params)
 }
 
-/// Reads a text of each form.
+/// Reads a text of each format.
 pub fn make_calls(rt: &HostRuntime) -> Result<(), Stopped> {
     let _ = problem_of(rt, SQUARE)?;
     call_for_tour(rt)?;

@@ -1,4 +1,4 @@
-//! Calls that are made again where memory was refused.
+//! Calls that are made again if memory runs out.
 ghost use Rattle.std.specs.Prelude.{◌≡◌, IfOk, Ok};
 
 use std::alloc::AllocError;
@@ -7,17 +7,17 @@ use tk_engines::{ParamFault, ParamKind};
 use tk_text::{TextFault, TextKind};
 use tk_tour::TourFault;
 
-/// Why a call has no value. One that was refused memory is made again.
+/// Why a call has no value. It is made again if memory ran out.
 #[derive(Clone, Copy)]
 pub enum Stopped {
-    /// Memory was refused.
+    /// Memory ran out.
     NoMemory,
     /// The call has another fault, or a line could not be printed.
     Otherwise,
 }
 
 impl Stopped {
-    /// Of a call that says whether it was refused memory.
+    /// The reason why a call has no value, given whether memory ran out.
     fn of_call(is_no_memory: bool) -> Stopped {
         if is_no_memory {
             Stopped::NoMemory
@@ -57,7 +57,7 @@ impl From<io::Error> for Stopped {
     }
 }
 
-/// Tells that the call of this name was refused memory. At any other fault the calls end.
+/// Prints that memory ran out in the call with this name. Any other fault ends the calls.
 pub fn tell_refused<E: Into<Stopped>>(
     rt: &HostRuntime,
     name: &str,
@@ -80,7 +80,7 @@ pub fn or_stopped<V, E: Into<Stopped>>(answer: Result<V, E>) -> Result<V, Stoppe
     }
 }
 
-/// Makes a call. If it is refused memory, this is told under its name, and it is made again.
+/// Makes a call. If memory runs out, prints this under its name, and makes the call again.
 #[macro_export]
 macro_rules! again {
     ($rt:expr, $name:literal, $call:expr) => {
@@ -94,7 +94,7 @@ macro_rules! again {
     };
 }
 
-/// Makes a call as `again` does, and tells its value under its name.
+/// Makes a call as `again` does, and prints its value under its name.
 #[macro_export]
 macro_rules! call {
     ($rt:expr, $name:literal, $call:expr) => {

@@ -1,4 +1,4 @@
-//! Searches. What is built before the first trial takes memory, and trials take none.
+//! Searches. They allocate memory before the first trial, and none during trials.
 use crate::again;
 use crate::instances::{FIVE, ROW, SQUARE};
 use crate::lines::mark;
@@ -13,7 +13,7 @@ use tk_metric::{Metric, Near, Table};
 use tk_text::Problem;
 use tk_tour::{ArrayTour, TourFault, TourStore};
 
-/// A search of that many trials from a tour, over so many candidates.
+/// A search of this many trials from a tour, with near lists of this length.
 #[derive(Clone, Copy)]
 struct Task<'a> {
     problem: &'a [u8],
@@ -65,14 +65,14 @@ fn begin<'a, M: Metric>(
     }
 }
 
-/// Tells what a search has counted, and its best tour.
+/// Prints the counters of a search, and its best tour.
 fn show<M: Metric>(rt: &HostRuntime, name: &str, search: &Search<M>) -> Result<(), Stopped> {
     let (totals, best) = (search.totals(), search.best());
     println!(rt; "{name}: {totals:?}, {best:?}")?;
     Ok(())
 }
 
-/// Makes so many trials.
+/// Makes this many trials.
 fn make_trials<M: Metric>(search: &mut Search<M>, count: u32) {
     let mut rng = Pcg32::seed_from_u64(1);
     for _ in 0..count {
@@ -80,7 +80,7 @@ fn make_trials<M: Metric>(search: &mut Search<M>, count: u32) {
     }
 }
 
-/// Makes the trials of a search that is built.
+/// Makes the trials of a search that is built, and prints its state before and after them.
 fn search<M: Metric>(rt: &HostRuntime, search: &mut Search<M>, trials: u32) -> Result<(), Stopped> {
     show(rt, "Search::new", search)?;
     mark(rt, "built")?;
@@ -89,7 +89,7 @@ fn search<M: Metric>(rt: &HostRuntime, search: &mut Search<M>, trials: u32) -> R
     mark(rt, "done")
 }
 
-/// A search of a task.
+/// The search of a task, before its first trial.
 fn begun<'a, M: Metric>(
     rt: &HostRuntime,
     metric: &'a M,

@@ -1,4 +1,4 @@
-//! Tours to begin with.
+//! Starting tours.
 ghost use Rattle.std.specs.Prelude.{◌≡◌, ◌≤◌};
 
 use crate::call;
@@ -10,7 +10,7 @@ use tk_build::{nearest, savings_lists, savings_tour};
 use tk_metric::{Metric, Near, Table};
 use tk_text::Problem;
 
-/// A nearest-neighbour tour.
+/// Constructs and prints a nearest-neighbour tour.
 fn start_nearest<M: Metric>(rt: &HostRuntime, metric: &M) -> Result<(), Stopped>
     requires { 1 ≤ M.size_of metric.now }
 {
@@ -18,7 +18,7 @@ fn start_nearest<M: Metric>(rt: &HostRuntime, metric: &M) -> Result<(), Stopped>
     call!(rt, "nearest", nearest(alloc, metric, 1))
 }
 
-/// A savings tour.
+/// Constructs and prints a savings tour.
 fn start_by_savings<M: Metric>(rt: &HostRuntime, metric: &M, near: &Near) -> Result<(), Stopped>
     requires some { 1 ≤ M.size_of metric.now }
     requires size { near.now.size ≡ M.size_of metric.now }
@@ -27,7 +27,7 @@ fn start_by_savings<M: Metric>(rt: &HostRuntime, metric: &M, near: &Near) -> Res
     call!(rt, "savings_tour", savings_tour(alloc, metric, near))
 }
 
-/// Lists of the cities of a problem of five.
+/// Constructs and prints savings lists of a problem with five cities.
 fn join<M: Metric>(rt: &HostRuntime, metric: &M, near: &Near) -> Result<(), Stopped>
     requires cities { M.size_of metric.now ≡ 5 }
     requires size { near.now.size ≡ M.size_of metric.now }
@@ -41,7 +41,7 @@ fn join<M: Metric>(rt: &HostRuntime, metric: &M, near: &Near) -> Result<(), Stop
     )
 }
 
-/// A nearest-neighbour tour and a savings tour of a problem.
+/// Constructs a nearest-neighbour tour and a savings tour of a problem.
 fn make_tours(rt: &HostRuntime, problem: &Problem) -> Result<(), Stopped> {
     let table = Table::of(problem);
     let near = near_of(rt, &table, 3)?;
@@ -52,7 +52,7 @@ fn make_tours(rt: &HostRuntime, problem: &Problem) -> Result<(), Stopped> {
     start_by_savings(rt, &table, &near)
 }
 
-/// Joins the cities of a problem of five into lists.
+/// Joins the cities of a problem with five cities into lists.
 fn make_lists(rt: &HostRuntime, problem: &Problem) -> Result<(), Stopped> {
     let table = Table::of(problem);
     let near = near_of(rt, &table, 4)?;
@@ -62,7 +62,7 @@ fn make_lists(rt: &HostRuntime, problem: &Problem) -> Result<(), Stopped> {
     join(rt, &table, &near)
 }
 
-/// Starts a tour in each way.
+/// Constructs a tour in each way.
 fn call_for_tours(rt: &HostRuntime) -> Result<(), Stopped> {
     let problem = problem_of(rt, SQUARE)?;
     make_tours(rt, &problem)
@@ -74,7 +74,7 @@ fn call_for_lists(rt: &HostRuntime) -> Result<(), Stopped> {
     make_lists(rt, &problem)
 }
 
-/// Starts a tour in each way, and joins cities into lists.
+/// Constructs a tour in each way, and joins cities into lists.
 pub fn make_calls(rt: &HostRuntime) -> Result<(), Stopped> {
     call_for_tours(rt)?;
     call_for_lists(rt)

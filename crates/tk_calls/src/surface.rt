@@ -1,5 +1,5 @@
-//! Every name that users of the libraries write, by its path. This program compiles only while the surfaces show them
-//! all.
+//! Every name that users of the libraries write, by its path. This program compiles only as long as the libraries
+//! export all of them.
 
 /// Texts.
 pub mod texts {

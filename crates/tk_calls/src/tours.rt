@@ -19,7 +19,7 @@ pub fn flip_after<S: TourStore>(tour: &mut S, a: u32, c: u32) -> Result<Flip, St
     Ok(tour.flip(a, b, c, d))
 }
 
-/// Eight cities in their order, with a journal of so many flips.
+/// Eight cities in the order of their numbers, with a journal of this many flips.
 fn journal(alloc: Global, slots: u32) -> Result<JournalTour<ArrayTour>, AllocError> {
     let Ok(tour) = ArrayTour::from_list(alloc, &[1, 2, 3, 4, 5, 6, 7, 8]) else {
         return Err(AllocError);
@@ -27,7 +27,7 @@ fn journal(alloc: Global, slots: u32) -> Result<JournalTour<ArrayTour>, AllocErr
     JournalTour::new(alloc, tour, slots)
 }
 
-/// A journal tour of eight cities, with room for so many flips.
+/// Like `journal`, but the order of the tour is printed.
 pub fn journal_of(rt: &HostRuntime, slots: u32) -> Result<JournalTour<ArrayTour>, Stopped> {
     let alloc = rt.alloc();
     let tour = again!(rt, "JournalTour::new", journal(alloc, slots))?;
@@ -35,7 +35,7 @@ pub fn journal_of(rt: &HostRuntime, slots: u32) -> Result<JournalTour<ArrayTour>
     Ok(tour)
 }
 
-/// An array tour of a list.
+/// A tour in the order of the list, which is printed.
 pub fn tour_of(rt: &HostRuntime, cities: &[u32]) -> Result<ArrayTour, Stopped> {
     let alloc = rt.alloc();
     let tour = again!(rt, "from_list", ArrayTour::from_list(alloc, cities))?;
@@ -43,7 +43,7 @@ pub fn tour_of(rt: &HostRuntime, cities: &[u32]) -> Result<ArrayTour, Stopped> {
     Ok(tour)
 }
 
-/// Tells a tour as it is printed.
+/// Prints the canonical form of a tour.
 pub fn show_canonical(rt: &HostRuntime, tour: &ArrayTour) -> Result<(), Stopped> {
     let alloc = rt.alloc();
     call!(rt, "canonical", tour.canonical(alloc))
@@ -55,14 +55,14 @@ fn check_list(rt: &HostRuntime, cities: &[u32]) -> Result<(), Stopped> {
     call!(rt, "check", check(alloc, 4, cities))
 }
 
-/// Prints a tour of which a part is reversed.
+/// Reverses a part of a tour, and prints the canonical form.
 fn print_flipped(rt: &HostRuntime) -> Result<(), Stopped> {
     let mut tour = tour_of(rt, &[1, 2, 3, 4])?;
     let _ = flip_after(&mut tour, 1, 3)?;
     show_canonical(rt, &tour)
 }
 
-/// Makes a tour that is seen through segments.
+/// Makes a tour in segments.
 fn make_segments(rt: &HostRuntime) -> Result<(), Stopped> {
     let alloc = rt.alloc();
     let tour = again!(
@@ -73,7 +73,7 @@ fn make_segments(rt: &HostRuntime) -> Result<(), Stopped> {
     tell_number(rt, "SegmentTour::from_list", &tour.size(), "cities")
 }
 
-/// A queue for so many cities, all of which sleep.
+/// A queue for this many cities, none of which is awake.
 pub fn waking_of(rt: &HostRuntime, size: u32) -> Result<Waking, Stopped>
     ensures { IfOk result (λ waking. waking.size ≡ size) }
 {
@@ -81,7 +81,7 @@ pub fn waking_of(rt: &HostRuntime, size: u32) -> Result<Waking, Stopped>
     again!(rt, "Waking::new", Waking::new(alloc, size))
 }
 
-/// Wakes three cities, and one of them again, and takes them from their queue, until it has no more.
+/// Wakes three cities, and one of them again, and takes cities from their queue until it is empty.
 fn take_three(waking: &mut Waking) -> [Option<u32>; 4]
     requires { waking.old.size ≡ 3 }
 {
@@ -96,14 +96,14 @@ fn wake_three(rt: &HostRuntime) -> Result<(), Stopped> {
     tell(rt, "Waking::new", &take_three(&mut waking))
 }
 
-/// Makes room for the steps of three cities.
+/// Makes a cache of edge lengths for three cities.
 fn make_steps(rt: &HostRuntime) -> Result<(), Stopped> {
     let alloc = rt.alloc();
     let _ = again!(rt, "Steps::new", Steps::new(alloc, 3))?;
     tell_number(rt, "Steps::new", &3, "cities")
 }
 
-/// Checks a list and a tour, prints a tour, wakes three cities, and makes room for steps.
+/// Checks two lists, prints a tour, makes a tour in segments, wakes three cities, and makes a cache of edge lengths.
 pub fn make_calls(rt: &HostRuntime) -> Result<(), Stopped> {
     check_list(rt, &[1, 2, 3, 4])?;
     check_list(rt, &[1, 2, 2, 4])?;

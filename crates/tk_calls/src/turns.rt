@@ -1,4 +1,4 @@
-//! Looks, moves, descents, kicks and flips. What is built before them takes memory, and they take none.
+//! Looks, moves, descents, kicks and flips. Memory is allocated before them, and none during them.
 ghost use Rattle.std.specs.Prelude.{◌≡◌, ◌≤◌, length, pos};
 ghost use Rattle.tk_tour.specs.ArrayTours.{order_of};
 ghost use Rattle.tk_tour.specs.Tour.{tour_length};
@@ -15,7 +15,7 @@ use tk_metric::{Metric, Near, Table};
 use tk_text::Problem;
 use tk_tour::{ArrayTour, JournalTour, TourStore, length};
 
-/// Makes the move that a look from city 1 offers.
+/// Makes the move that a look at city 1 offers.
 fn look_and_make<M: Metric>(
     rt: &HostRuntime,
     tour: &mut ArrayTour,
@@ -36,7 +36,7 @@ fn look_and_make<M: Metric>(
     mark(rt, "done")
 }
 
-/// Takes the crossing out of the square's tour, by one look and its move.
+/// Removes the crossing from the tour of the square, by one look and its move.
 fn look_at_square<M: Metric>(rt: &HostRuntime, metric: &M, near: &Near) -> Result<(), Stopped> {
     let mut tour = tour_of(rt, &[1, 2, 3, 4])?;
     if tour.size() != 4 || metric.size() != 4 || near.size() != 4 {
@@ -53,7 +53,7 @@ fn length_of<M: Metric>(metric: &M, tour: &ArrayTour) -> i64
     length(metric, tour.order())
 }
 
-/// A descent with all cities awake.
+/// Makes a descent with all cities awake.
 fn descend_awake<M: Metric>(
     tour: &mut ArrayTour,
     waking: &mut Waking,
@@ -69,7 +69,7 @@ fn descend_awake<M: Metric>(
     descend(tour, &mut Probe::new(metric), near, waking, 3, before)
 }
 
-/// Tells what a descent has done.
+/// Prints the report of a descent.
 fn show(rt: &HostRuntime, report: &Report) -> Result<(), Stopped> {
     println!(rt;
         "descend: {} to {}, {} moves, {} looks, {} tests, {} swaps",
@@ -78,7 +78,7 @@ fn show(rt: &HostRuntime, report: &Report) -> Result<(), Stopped> {
     Ok(())
 }
 
-/// Makes and tells a descent of a tour, with a queue of cities that sleep.
+/// Prints the number of cities awake in a queue, wakes all of them, makes a descent of a tour, and prints its report.
 fn wake_and_descend<M: Metric>(
     rt: &HostRuntime,
     tour: &mut ArrayTour,
@@ -96,7 +96,7 @@ fn wake_and_descend<M: Metric>(
     mark(rt, "done")
 }
 
-/// Takes the crossing out by a descent.
+/// Removes the crossing by a descent.
 fn descend_square<M: Metric>(rt: &HostRuntime, metric: &M, near: &Near) -> Result<(), Stopped> {
     let mut tour = tour_of(rt, &[1, 2, 3, 4])?;
     let mut waking = waking_of(rt, metric.size())?;
@@ -106,7 +106,7 @@ fn descend_square<M: Metric>(rt: &HostRuntime, metric: &M, near: &Near) -> Resul
     wake_and_descend(rt, &mut tour, &mut waking, metric, near)
 }
 
-/// Flips and undoes a flip.
+/// Makes and undoes a flip.
 fn flip_and_undo(rt: &HostRuntime, tour: &mut ArrayTour) -> Result<(), Stopped> {
     let flip = flip_after(tour, 1, 3)?;
     tell_tour(rt, "flip", tour.order(), tour.swaps(), "swaps")?;
@@ -126,7 +126,7 @@ fn kick_eight(eight: &mut ArrayTour) -> Result<(), Stopped> {
     Ok(())
 }
 
-/// Flips and undoes a flip of four cities, kicks eight, and tells these as they are printed.
+/// Makes and undoes a flip of four cities, kicks eight cities, and prints the canonical form of these.
 fn flip_and_kick(
     rt: &HostRuntime,
     four: &mut ArrayTour,
@@ -139,21 +139,21 @@ fn flip_and_kick(
     show_canonical(rt, eight)
 }
 
-/// Makes the calls that turn parts of a tour.
+/// Makes the calls that reverse parts of a tour.
 fn turn_parts(rt: &HostRuntime) -> Result<(), Stopped> {
     let mut four = tour_of(rt, &[1, 2, 3, 4])?;
     let mut eight = tour_of(rt, &[1, 2, 3, 4, 5, 6, 7, 8])?;
     flip_and_kick(rt, &mut four, &mut eight)
 }
 
-/// Flips twice.
+/// Makes two flips.
 fn flip_twice(rt: &HostRuntime, tour: &mut JournalTour<ArrayTour>) -> Result<(), Stopped> {
     let _ = flip_after(tour, 1, 7)?;
     let _ = flip_after(tour, 2, 4)?;
     tell_tour(rt, "flip", tour.tour().order(), tour.flips(), "flips")
 }
 
-/// Goes back by the journal, as far as it has the flips.
+/// Rewinds a tour by its journal, as far as the journal contains the flips.
 fn rewind(rt: &HostRuntime, tour: &mut JournalTour<ArrayTour>) -> Result<(), Stopped> {
     let is_back = tour.rewind();
     let array = tour.tour();
@@ -162,7 +162,7 @@ fn rewind(rt: &HostRuntime, tour: &mut JournalTour<ArrayTour>) -> Result<(), Sto
     Ok(())
 }
 
-/// Goes back by a copy of the start.
+/// Restores a tour by a copy of the start.
 fn restore(
     rt: &HostRuntime,
     tour: &mut JournalTour<ArrayTour>,
@@ -176,7 +176,7 @@ fn restore(
     tell_tour(rt, "restore", array.order(), array.copied(), "copied")
 }
 
-/// Flips twice, and goes back in each way.
+/// Makes two flips, and goes back by the journal and by a copy.
 fn flip_and_go_back(
     rt: &HostRuntime,
     tour: &mut JournalTour<ArrayTour>,
@@ -189,7 +189,7 @@ fn flip_and_go_back(
     mark(rt, "done")
 }
 
-/// Goes back by a journal of so many flips, which has lost one of two if it has room for one, and by a copy.
+/// Goes back by a journal of this many flips, and by a copy. A journal of one flip loses one of the two.
 fn go_back(rt: &HostRuntime, slots: u32) -> Result<(), Stopped> {
     let start = tour_of(rt, &[1, 2, 3, 4, 5, 6, 7, 8])?;
     let mut tour = journal_of(rt, slots)?;
@@ -210,7 +210,7 @@ fn call_for_descents(rt: &HostRuntime) -> Result<(), Stopped> {
     descend_in(rt, &problem)
 }
 
-/// Makes each of these calls after what it needs.
+/// Makes these calls, each after the calls that it needs.
 pub fn make_calls(rt: &HostRuntime) -> Result<(), Stopped> {
     call_for_descents(rt)?;
     turn_parts(rt)?;
