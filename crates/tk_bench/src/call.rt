@@ -1,9 +1,9 @@
-//! A call of the program: its word, and the run that it asks for.
+//! The command line of the program: its argument, and the run that it requests.
 use crate::times::Times;
 use crate::{descent, distances, near, savings, search, segments, tour};
 use std::process::ExitCode;
 
-/// The exit status where the words of the call are refused.
+/// The exit status if the arguments are rejected.
 const USAGE: u8 = 2;
 
 /// A benchmark.
@@ -18,7 +18,7 @@ enum Benchmark {
     Tour,
 }
 
-/// Each benchmark, by its word.
+/// The benchmarks, with their names.
 const BENCHMARKS: [(&str, Benchmark); 7] = [
     ("descent", Benchmark::Descent),
     ("distances", Benchmark::Distances),
@@ -29,14 +29,14 @@ const BENCHMARKS: [(&str, Benchmark); 7] = [
     ("tour", Benchmark::Tour),
 ];
 
-/// What a call asks for: a small run of each benchmark, or the run of one.
+/// A request: a small run of each benchmark, or the run of one.
 #[derive(Clone, Copy)]
 enum Asked {
     Small,
     One(Benchmark),
 }
 
-/// Reads the words of the call, and makes the run that they ask for.
+/// Reads the arguments of the call, and makes the run that they request.
 pub fn run_call(rt: &HostRuntime) -> ExitCode {
     let asked = match asked_of_call(rt) {
         Ok(Some(asked)) => asked,
@@ -49,16 +49,16 @@ pub fn run_call(rt: &HostRuntime) -> ExitCode {
     }
 }
 
-/// What the words of the call ask for, if that is a run.
+/// The request of the arguments, if they make one.
 ///
 /// # Errors
-/// A word is not UTF-8, or memory ran out.
+/// If an argument is not UTF-8, or memory runs out.
 fn asked_of_call(rt: &HostRuntime) -> anyhow::Result<Option<Asked>> {
     let words = std::env::args(rt)?.collect::<Vec<String>>(rt.alloc())?;
     Ok(asked_by(&words))
 }
 
-/// What these words ask for, the first of which is the program's.
+/// The request of these arguments, the first of which is the name of the program.
 fn asked_by(words: &[String]) -> Option<Asked> {
     match words {
         [] | [_] => Some(Asked::Small),
@@ -67,7 +67,7 @@ fn asked_by(words: &[String]) -> Option<Asked> {
     }
 }
 
-/// The benchmark of this name.
+/// The benchmark with this name, if there is one.
 fn benchmark_of(name: &str) -> Option<Benchmark> {
     for (word, benchmark) in BENCHMARKS {
         if word == name {
@@ -77,7 +77,7 @@ fn benchmark_of(name: &str) -> Option<Benchmark> {
     None
 }
 
-/// Makes the runs that are asked for.
+/// Makes the requested runs.
 fn run_asked(rt: &HostRuntime, asked: Asked) -> anyhow::Result<()> {
     match asked {
         Asked::Small => run_small(rt),
@@ -93,7 +93,7 @@ fn run_small(rt: &HostRuntime) -> anyhow::Result<()> {
     Ok(())
 }
 
-/// Makes the run of a benchmark whose times are told, or the small one.
+/// Makes the run of a benchmark, if its times are printed, or the small run, if they are hidden.
 fn run(rt: &HostRuntime, times: Times, benchmark: Benchmark) -> anyhow::Result<()> {
     match benchmark {
         Benchmark::Descent => descent::run(rt, times),
@@ -106,13 +106,13 @@ fn run(rt: &HostRuntime, times: Times, benchmark: Benchmark) -> anyhow::Result<(
     }
 }
 
-/// Tells which words there are.
+/// Prints the usage.
 fn refused(rt: &HostRuntime) -> ExitCode {
     let _ = eprintln!(rt; "usage: tk_bench [descent|distances|near|savings|search|segments|tour]");
     ExitCode::from(USAGE)
 }
 
-/// Tells why a run stopped.
+/// Prints why a run stopped.
 fn stopped(rt: &HostRuntime, error: &anyhow::Error) -> ExitCode {
     let _ = eprintln!(rt; "tk_bench: {error}");
     ExitCode::FAILURE

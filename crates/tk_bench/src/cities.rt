@@ -1,4 +1,4 @@
-//! Lists of cities, and one number that stands for many cities.
+//! Lists of cities, and digests of them.
 use std::alloc::{AllocError, Global};
 
 /// The cities from 1 to n.
@@ -10,12 +10,12 @@ pub fn first_cities(alloc: Global, n: u32) -> Result<Vec<u32>, AllocError> {
     Ok(cities)
 }
 
-/// A number of the cities in their order, modulo 2^64.
+/// A digest of the cities in their order, modulo 2^64.
 pub fn digest(cities: &[u32]) -> u64 {
     digest_after(0, cities)
 }
 
-/// The number of cities that come after others, whose number this is.
+/// The digest of cities that follow others, given the digest of these.
 pub fn digest_after(before: u64, cities: &[u32]) -> u64 {
     let mut digest = before;
     for city in cities {

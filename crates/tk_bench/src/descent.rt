@@ -1,7 +1,7 @@
-//! How long a descent takes, and then a look at each city of the local optimum.
+//! Measures the time of a descent, and then of a look at each city of the local optimum.
 //!
-//! A line has the cities, the phase (1: the descent, 2: the looks), the gain tests, the nanoseconds, the moves, the
-//! looks and the length after them.
+//! Each line contains the number of cities, the phase (1: the descent, 2: the looks), the gain tests, the nanoseconds,
+//! the moves, the looks and the length after them.
 ghost use Rattle.std.specs.Prelude.{◌≡◌, ◌<◌, ◌≤◌, length, pos};
 ghost use Rattle.tk_tour.specs.ArrayTours.{order_of};
 ghost use Rattle.tk_tour.specs.Tour.{tour_length};
@@ -26,7 +26,7 @@ pub fn run(rt: &HostRuntime, times: Times) -> anyhow::Result<()> {
     }
 }
 
-/// Both phases for so many cities, from the tour along strips of this width.
+/// Makes both phases for n cities, from the tour along strips of this width.
 fn measure(rt: &HostRuntime, times: Times, n: u32, width: u32) -> anyhow::Result<()>
     requires n { (6 ≤ n) × (n ≤ CITY_LIMIT) }
     requires width { 0 < width }
@@ -37,7 +37,7 @@ fn measure(rt: &HostRuntime, times: Times, n: u32, width: u32) -> anyhow::Result
     descend_from(rt, times, &metric, &near, &order)
 }
 
-/// Both phases, from the tour of this order.
+/// Makes both phases, from the tour in this order.
 fn descend_from<M: Metric>(
     rt: &HostRuntime,
     times: Times,
@@ -103,7 +103,7 @@ fn length_of<M: Metric>(metric: &M, tour: &ArrayTour) -> i64
     length(metric, tour.order())
 }
 
-/// A descent with all cities awake.
+/// Makes a descent with all cities awake.
 fn descent<M: Metric>(metric: &M, near: &Near, tour: &mut ArrayTour, waking: &mut Waking) -> Report
     requires metric { M.size_of metric.now ≡ length (order_of tour.old) }
     requires near { near.now.size ≡ length (order_of tour.old) }

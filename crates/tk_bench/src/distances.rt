@@ -1,7 +1,7 @@
-//! How long distances of places in the plane take.
+//! Measures the time that distances of points in the plane take.
 //!
-//! A line has the kind of distances and coordinates, the span of the coordinates, the sum of the distances, and the
-//! picoseconds of one distance.
+//! Each line contains the type of the distances and of the coordinates, the span of the coordinates, the sum of the
+//! distances, and the picoseconds of one distance.
 use crate::draws::advance;
 use crate::times::{Time, Times};
 use std::alloc::{AllocError, Global};
@@ -10,20 +10,21 @@ use std::time::Instant;
 use tk_metric::{Metric, Planes};
 use tk_text::{CITY_LIMIT, COORDINATE_LIMIT, PlaneKind, Point, Points, SCALE};
 
-/// No coordinate may be over this, in units of 10^-9.
+/// The maximum of a coordinate, in units of 10^-9.
 const FAR: u64 = COORDINATE_LIMIT * SCALE as u64;
 
-/// How often each sum is made; the least time counts.
+/// How often each sum is computed; the shortest time counts.
 const ROUNDS: u32 = 7;
 
-/// How many places there are. All distances of places that are fewer than `steps` apart in their list are measured.
+/// The number of points. All distances of points that are fewer than `steps` positions apart in their list are
+/// measured.
 #[derive(Clone, Copy)]
 struct Sizes {
     places: u32,
     steps: u32,
 }
 
-/// What is measured: distances of a kind, among coordinates that are multiples of a unit of 10^-9.
+/// A measurement: distances of a type, among coordinates that are multiples of `unit`, given in units of 10^-9.
 #[derive(Clone, Copy)]
 struct Task<'a> {
     name: &'a str,
@@ -31,7 +32,8 @@ struct Task<'a> {
     unit: i64,
 }
 
-/// Each kind of distances, among whole coordinates and among decimal ones, which are nine decimals if not told.
+/// Three types of distances, among whole coordinates and among decimal ones. Decimals have nine digits, unless the name
+/// states a unit.
 const TASKS: [Task<'static>; 8] = [
     Task {
         name: "EUC_2D/whole",
@@ -99,7 +101,7 @@ pub fn run(rt: &HostRuntime, times: Times) -> anyhow::Result<()> {
     Ok(())
 }
 
-/// The sums of all tasks, at one span.
+/// Measures all tasks, at one span.
 fn measure_all(rt: &HostRuntime, times: Times, span: i64, sizes: Sizes) -> io::Result<()> {
     for task in TASKS {
         measure(rt, times, task, span, sizes)?;
@@ -107,7 +109,7 @@ fn measure_all(rt: &HostRuntime, times: Times, span: i64, sizes: Sizes) -> io::R
     Ok(())
 }
 
-/// The sum of the distances of a task, at one span.
+/// Measures the sum of the distances of a task, at one span.
 fn measure(
     rt: &HostRuntime,
     times: Times,
@@ -129,7 +131,7 @@ fn measure(
     )
 }
 
-/// Makes and times the sum.
+/// Computes and times the sum.
 fn time_task<M: Metric>(
     rt: &HostRuntime,
     times: Times,
@@ -148,7 +150,8 @@ fn tell(rt: &HostRuntime, name: &str, span: i64, sum: u64, took: Time) -> io::Re
     println!(rt; "{name} {span} {sum} {took}")
 }
 
-/// The sum of the distances of places that are fewer than so many steps apart, and the least nanoseconds that it took.
+/// The sum of the distances of points that are fewer than `steps` positions apart, and the shortest time, in
+/// nanoseconds.
 fn time_sum<M: Metric>(rt: &HostRuntime, metric: &M, steps: u32) -> io::Result<(u64, u128)> {
     let mut least: u128 = u128::MAX;
     let mut sum = 0;
@@ -160,14 +163,14 @@ fn time_sum<M: Metric>(rt: &HostRuntime, metric: &M, steps: u32) -> io::Result<(
     Ok((sum, least))
 }
 
-/// The picoseconds of one distance, of the nanoseconds of all.
+/// The picoseconds of one distance, given the nanoseconds of all.
 fn picoseconds_of_one(nanoseconds: u128, sizes: Sizes) -> u128 {
     let ends = sizes.places.saturating_sub(sizes.steps / 2) as u128;
     let distances = ends * sizes.steps.saturating_sub(1) as u128;
     nanoseconds.min(1_000_000_000_000) * 1_000 / distances.max(1)
 }
 
-/// Places whose coordinates have a magnitude of at most the span, and are multiples of a unit.
+/// Random points, whose coordinates have a magnitude of at most the span, and are multiples of a unit.
 fn spread(alloc: Global, count: u32, span: i64, unit: i64) -> Result<Points, AllocError> {
     let mut points = Points::at_origin(alloc, count as usize)?;
     let mut state = 42;
@@ -181,7 +184,7 @@ fn spread(alloc: Global, count: u32, span: i64, unit: i64) -> Result<Points, All
     Ok(points)
 }
 
-/// A coordinate of magnitude at most the span, which is a multiple of a unit.
+/// A random coordinate with a magnitude of at most the span, which is a multiple of a unit.
 fn coordinate(state: &mut u64, span: i64, unit: i64) -> i64 {
     let most = span.wrapping_mul(SCALE / unit.max(1)).unsigned_abs();
     let drawn = (advance(state) >> 11).wrapping_mul(2_048);
@@ -191,7 +194,7 @@ fn coordinate(state: &mut u64, span: i64, unit: i64) -> i64 {
         .wrapping_mul(unit)
 }
 
-/// The sum of the distances of places that are fewer than so many steps apart.
+/// The sum of the distances of points that are fewer than `steps` positions apart.
 fn sum_of<M: Metric>(metric: &M, steps: u32) -> u64 {
     let mut sum: u64 = 0;
     for step in 1..steps {
@@ -200,7 +203,7 @@ fn sum_of<M: Metric>(metric: &M, steps: u32) -> u64 {
     sum
 }
 
-/// The sum of the distances of places that are so many steps apart.
+/// The sum of the distances of points that are `step` positions apart.
 fn sum_at<M: Metric>(metric: &M, step: u32) -> u64 {
     let last = metric.size().saturating_sub(step);
     let mut sum: u64 = 0;

@@ -1,7 +1,7 @@
-//! Numbers drawn by a linear congruence modulo 2^64.
+//! Pseudorandom numbers by a linear congruential generator modulo 2^64.
 ghost use Rattle.std.specs.Prelude.{◌<◌, ◌≤◌};
 
-/// Takes the next state, and answers it.
+/// Advances the state, and returns it.
 pub fn advance(state: &mut u64) -> u64 {
     *state = state
         .wrapping_mul(6_364_136_223_846_793_005)

@@ -1,7 +1,7 @@
 //! Benchmarks of the libraries. `bench/` compares them with programs in plain Rust.
 //!
-//! A call with the name of a benchmark makes its run, whose lines tell times. A call with no word makes a small run of
-//! each, whose lines tell results alone, so that they are the same each time.
+//! A call with the name of a benchmark makes its run, whose lines contain times. A call without arguments makes a small
+//! run of each benchmark. Its lines contain only results, so that they are the same each time.
 #![tactic(auto)]
 
 mod call;

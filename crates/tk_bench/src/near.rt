@@ -1,6 +1,7 @@
-//! How long near lists and a tour by the nearest city take, on kinds of input that are easy or hard for them.
+//! Measures the time of near lists and of a nearest-neighbour tour, on kinds of input that are easy or hard for them.
 //!
-//! A line has the input, what is made (`near-K` or `start`), the microseconds, and a number of the cities made.
+//! Each line contains the input, the kind of the result (`near-K` or `start`), the microseconds, and a digest of the
+//! cities.
 ghost use Rattle.std.specs.Prelude.{◌≤◌};
 
 use crate::cities::{digest, digest_after};
@@ -11,7 +12,7 @@ use tk_build::nearest_tour;
 use tk_metric::{Metric, Near, Planes, Table, near_lists};
 use tk_text::{CANDIDATE_LIMIT, CITY_LIMIT, PlaneKind};
 
-/// How many cities there are, and the lengths of the shorter and of the longer lists.
+/// The number of cities, and the lengths of the shorter and of the longer near lists.
 #[derive(Clone, Copy)]
 struct Sizes {
     cities: u32,
@@ -55,7 +56,7 @@ pub fn run(rt: &HostRuntime, times: Times) -> anyhow::Result<()> {
     }
 }
 
-/// Each kind of input.
+/// Measures each kind of input.
 fn measure_all(rt: &HostRuntime, times: Times, sizes: Sizes) -> anyhow::Result<()>
     requires cities { sizes.cities ≤ CITY_LIMIT }
     requires short { (1 ≤ sizes.short) × (sizes.short ≤ CANDIDATE_LIMIT) }
@@ -67,7 +68,7 @@ fn measure_all(rt: &HostRuntime, times: Times, sizes: Sizes) -> anyhow::Result<(
     Ok(())
 }
 
-/// The lists of both lengths and the tour, on one kind of input.
+/// Measures the near lists of both lengths and the tour, on one kind of input.
 fn measure(
     rt: &HostRuntime,
     times: Times,
@@ -84,7 +85,7 @@ fn measure(
     time_each(rt, times, name, &table, sizes)
 }
 
-/// Makes and times the lists of both lengths and the tour.
+/// Makes and times the near lists of both lengths and the tour.
 fn time_each(
     rt: &HostRuntime,
     times: Times,
@@ -100,7 +101,7 @@ fn time_each(
     time_tour(rt, times, name, table)
 }
 
-/// Makes and times lists of length k.
+/// Makes and times near lists of length k.
 fn time_lists(
     rt: &HostRuntime,
     times: Times,
@@ -119,14 +120,14 @@ fn time_lists(
     tell_lists(rt, name, took, &near)
 }
 
-/// Prints the line of lists.
+/// Prints the line of near lists.
 fn tell_lists(rt: &HostRuntime, name: &str, took: Time, near: &Near) -> anyhow::Result<()> {
     let (k, digest) = (near.width(), digest_of_lists(near));
     println!(rt; "{name} near-{k} {took} {digest}")?;
     Ok(())
 }
 
-/// A number of the cities of all lists.
+/// A digest of the cities of all near lists.
 fn digest_of_lists(near: &Near) -> u64 {
     let mut digest = 0;
     for k in 0..near.size() {

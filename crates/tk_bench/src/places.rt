@@ -1,4 +1,4 @@
-//! Places of cities that are easy or hard for near lists and starting tours.
+//! Points of cities that are easy or hard for near lists and starting tours.
 ghost use Rattle.std.specs.Prelude.{◌≡◌, ◌≤◌, IfOk, length};
 ghost use Rattle.tk_text.specs.Places.{IsNearOrigin};
 
@@ -6,14 +6,14 @@ use crate::draws::draw;
 use std::alloc::{AllocError, Global};
 use tk_text::{COORDINATE_LIMIT, Point, Points, SCALE};
 
-/// How the cities lie.
+/// The distribution of the cities.
 #[derive(Clone, Copy)]
 pub enum Input {
     /// Anywhere in a square.
     Uniform,
     /// Anywhere in a strip of 10^6 by 100.
     Strip,
-    /// At one place.
+    /// At one point.
     OnePlace,
     /// In rows of 316, so that 100,000 cities fill a square.
     Lattice,
@@ -29,7 +29,7 @@ pub enum Input {
     Decimals,
 }
 
-/// The whole place of these coordinates.
+/// The point with these whole coordinates.
 pub fn whole(x: u32, y: u32) -> Point
     requires { (x ≤ COORDINATE_LIMIT) × (y ≤ COORDINATE_LIMIT) }
     ensures { IsNearOrigin result }
@@ -40,7 +40,7 @@ pub fn whole(x: u32, y: u32) -> Point
     }
 }
 
-/// The place of city i + 1, by two numbers that were drawn.
+/// The point of city i + 1, given two random numbers.
 fn place(input: Input, i: u32, r: u32, s: u32) -> Point
     requires { (i ≤ 1000000) × (r ≤ 2147483647) × (s ≤ 2147483647) }
     ensures { IsNearOrigin result }
@@ -66,7 +66,7 @@ fn place(input: Input, i: u32, r: u32, s: u32) -> Point
     }
 }
 
-/// The places of so many cities.
+/// The points of this many cities.
 pub fn sample(alloc: Global, count: u32, input: Input) -> Result<Points, AllocError>
     requires { count ≤ 1000000 }
     ensures { IfOk result (λ ps. length ps ≡ count) }

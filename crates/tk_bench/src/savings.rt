@@ -1,7 +1,7 @@
-//! How long the savings tour and savings lists take, on cities in a square and in a strip.
+//! Measures the time of the savings tour and of savings lists, on cities in a square and in a strip.
 //!
-//! A line has the box, the cities and the length of their near lists, then the microseconds and a number of the cities
-//! made; that of the lists also says how many there are.
+//! Each line contains the box, the number of cities and the length of their near lists, then the microseconds and a
+//! digest of the cities. The line of the lists also contains their number.
 ghost use Rattle.std.specs.Prelude.{◌≡◌, ◌<◌, ◌≤◌, length};
 
 use crate::cities::{digest, digest_after};
@@ -12,7 +12,7 @@ use tk_build::{savings_lists, savings_tour};
 use tk_metric::{Metric, Near, Planes, near_tree};
 use tk_text::{CANDIDATE_LIMIT, CITY_LIMIT, PlaneKind};
 
-/// What is measured: so many cities in a box, with near lists of length k.
+/// A measurement: this many cities in a box, with near lists of length k.
 #[derive(Clone, Copy)]
 struct Task<'a> {
     name: &'a str,
@@ -35,7 +35,7 @@ pub fn run(rt: &HostRuntime, times: Times) -> anyhow::Result<()> {
     }
 }
 
-/// So many cities in the square and in the strip, with near lists of length k.
+/// Measures this many cities in the square and in the strip, with near lists of length k.
 fn measure_boxes(rt: &HostRuntime, times: Times, count: u32, k: u32) -> anyhow::Result<()>
     requires count { (1 ≤ count) × (count ≤ CITY_LIMIT) }
     requires k { (1 ≤ k) × (k ≤ CANDIDATE_LIMIT) × (k < count) }
@@ -52,7 +52,7 @@ fn measure_boxes(rt: &HostRuntime, times: Times, count: u32, k: u32) -> anyhow::
     Ok(())
 }
 
-/// The tour and the lists of cities in one box.
+/// Measures the tour and the lists of cities in one box.
 fn measure(rt: &HostRuntime, times: Times, task: &Task<'_>) -> anyhow::Result<()>
     requires count { (1 ≤ task.now.count) × (task.now.count ≤ CITY_LIMIT) }
     requires k { (1 ≤ task.now.k) × (task.now.k ≤ CANDIDATE_LIMIT) × (task.now.k < task.now.count) }
@@ -104,7 +104,7 @@ fn tell_tour(rt: &HostRuntime, task: &Task<'_>, took: Time, tour: &[u32]) -> any
     Ok(())
 }
 
-/// Makes and times the lists, where each city has its load.
+/// Makes and times the lists, with these loads of the cities.
 fn time_lists<M: Metric>(
     rt: &HostRuntime,
     times: Times,
@@ -136,7 +136,7 @@ fn tell_lists(
     Ok(())
 }
 
-/// A number of the cities of all lists.
+/// A digest of the cities of all lists.
 fn digest_of_lists(lists: &[Vec<u32>]) -> u64 {
     let mut digest = 0;
     for list in lists {

@@ -1,8 +1,8 @@
-//! How long the first trial of a search takes, and the later ones, which begin with kicks.
+//! Measures the time of the first trial of a search, and of the later ones, which begin with kicks.
 //!
-//! A line has the word `tourkit`, the cities, the phase (1: the first trial, 2: the later ones), the trials and the
-//! nanoseconds of the phase, and then what the search has counted: moves, gain tests, swaps, better tours, and what
-//! they gained.
+//! Each line contains the word `tourkit`, the number of cities, the phase (1: the first trial, 2: the later ones), and
+//! the trials and the nanoseconds of the phase. Then it contains the totals of the search: moves, gain tests, swaps,
+//! better tours, and the length gained by all descents.
 ghost use Rattle.std.specs.Prelude.{◌≡◌, ◌<◌, ◌≤◌, length};
 ghost use Rattle.tk_tour.specs.ArrayTours.{order_of};
 
@@ -29,7 +29,7 @@ pub fn run(rt: &HostRuntime, times: Times) -> anyhow::Result<()> {
     }
 }
 
-/// Both phases for so many cities and later trials, from the tour along strips of this width.
+/// Makes both phases for n cities and `count` later trials, from the tour along strips of this width.
 fn measure(rt: &HostRuntime, times: Times, n: u32, width: u32, count: u32) -> anyhow::Result<()>
     requires n { (6 ≤ n) × (n ≤ CITY_LIMIT) }
     requires width { 0 < width }
@@ -40,7 +40,7 @@ fn measure(rt: &HostRuntime, times: Times, n: u32, width: u32, count: u32) -> an
     search_from(rt, times, &metric, &near, &order, count)
 }
 
-/// Both phases, from the tour of this order.
+/// Makes both phases, from the tour in this order.
 fn search_from<M: Metric>(
     rt: &HostRuntime,
     times: Times,
@@ -58,7 +58,7 @@ fn search_from<M: Metric>(
     time_search(rt, times, metric, near, start, count)
 }
 
-/// Both phases, from a tour.
+/// Makes both phases, from a tour.
 fn time_search<M: Metric>(
     rt: &HostRuntime,
     times: Times,
@@ -106,14 +106,14 @@ fn time_phase<M: Metric>(
     tell(rt, search, phase, trials, took)
 }
 
-/// Makes so many trials.
+/// Makes this many trials.
 fn make_trials<M: Metric>(search: &mut Search<M>, rng: &mut Pcg32, count: u32) {
     for _ in 0..count {
         let _report = search.trial(rng);
     }
 }
 
-/// Prints the line of a phase of so many trials.
+/// Prints the line of a phase with this many trials.
 fn tell<M: Metric>(
     rt: &HostRuntime,
     search: &Search<M>,

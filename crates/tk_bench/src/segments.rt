@@ -1,7 +1,8 @@
-//! How long the flips of a search take in an array, and in a tour that is seen through segments.
+//! Measures the time that the flips of a search take on a tour in an array, and on a tour in segments.
 //!
-//! A line has the store, the cities, the trials, the nanoseconds of all flips, the swaps, and the city after the first
-//! one. A trial is a kick at random cuts and flips of nearby cities, as a descent makes them after it.
+//! Each line contains the store, the number of cities, the trials, the nanoseconds of all flips, the swaps, and the
+//! city after city 1. A trial is a kick at random cuts, followed by flips of nearby cities, as a descent makes them
+//! after a kick.
 ghost use Rattle.std.specs.Prelude.{◌≡◌, ◌<◌, ◌≤◌, length};
 
 use crate::cities::first_cities;
@@ -16,7 +17,7 @@ use tk_segments::SegmentTour;
 use tk_text::CITY_LIMIT;
 use tk_tour::{ArrayTour, TourStore};
 
-// How many flips follow a kick, and how many places they reach at most.
+// The number of flips after a kick. The positions of a flip are fewer than `REACH` apart.
 const FLIPS: u32 = 16;
 
 const REACH: u32 = 50;
@@ -34,14 +35,14 @@ pub fn run(rt: &HostRuntime, times: Times) -> anyhow::Result<()> {
     }
 }
 
-/// So many trials in each store, from the cities in their order.
+/// Makes this many trials in each store, from the cities in the order of their numbers.
 fn measure(rt: &HostRuntime, times: Times, n: u32, trials: u32) -> anyhow::Result<()> {
     let cities = first_cities(rt.alloc(), n)?;
     measure_array(rt, times, &cities, trials)?;
     measure_segments(rt, times, &cities, trials)
 }
 
-/// So many trials in an array.
+/// Makes this many trials in an array.
 fn measure_array(
     rt: &HostRuntime,
     times: Times,
@@ -52,7 +53,7 @@ fn measure_array(
     measure_store(rt, times, "array", &mut tour, trials)
 }
 
-/// So many trials in a tour that is seen through segments.
+/// Makes this many trials in segments.
 fn measure_segments(
     rt: &HostRuntime,
     times: Times,
@@ -63,7 +64,7 @@ fn measure_segments(
     measure_store(rt, times, "segments", &mut tour, trials)
 }
 
-/// So many trials in one store.
+/// Makes this many trials in one store.
 fn measure_store<S: TourStore>(
     rt: &HostRuntime,
     times: Times,
@@ -95,7 +96,7 @@ fn tell<S: TourStore>(
     println!(rt; "{name} {n} {trials} {took} {swaps} {after}")
 }
 
-/// Makes so many trials.
+/// Makes this many trials.
 fn make_trials<S: TourStore>(tour: &mut S, trials: u32)
     requires { 8 ≤ length (S.cities tour.old) }
     ensures { length (S.cities tour.new) ≡ length (S.cities tour.old) }
@@ -109,7 +110,7 @@ fn make_trials<S: TourStore>(tour: &mut S, trials: u32)
     }
 }
 
-/// Flips between places that are near each other.
+/// Makes flips between positions that are near each other.
 fn flip_nearby<S: TourStore>(tour: &mut S, state: &mut u64)
     requires { 8 ≤ length (S.cities tour.old) }
     ensures { length (S.cities tour.new) ≡ length (S.cities tour.old) }

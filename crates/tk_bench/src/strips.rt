@@ -1,4 +1,4 @@
-//! Cities drawn at random in a square, and a tour that goes up and down along strips of it.
+//! Random cities in a square, and a tour that goes up and down along strips of it.
 ghost use Rattle.std.specs.Prelude.{◌≡◌, ◌<◌, ◌≤◌, IfOk, OnOk, length};
 
 use crate::draws::draw_below;
@@ -9,7 +9,7 @@ use tk_text::Points;
 /// The side of the square.
 const SIDE: u32 = 1_000_000;
 
-/// Where a city stands on the way along the strips.
+/// The position of a city on the way along the strips.
 #[derive(Clone, Copy)]
 struct Stop {
     strip: u32,
@@ -17,14 +17,14 @@ struct Stop {
     city: u32,
 }
 
-/// A coordinate drawn at random.
+/// A random coordinate.
 fn coordinate(state: &mut u64) -> u32
     ensures { result < 1000000 }
 {
     draw_below(state, SIDE)
 }
 
-/// Where a city at these coordinates stands on the way.
+/// The position on the way of a city with these coordinates.
 fn stop_at(x: u32, y: u32, width: u32, city: u32) -> Stop
     requires y { y < 1000000 }
     requires width { 0 < width }
@@ -34,7 +34,7 @@ fn stop_at(x: u32, y: u32, width: u32, city: u32) -> Stop
     Stop { strip, along, city }
 }
 
-/// Draws where a city lies, and adds where it stands on the way.
+/// Draws the point of a city, and adds its position on the way.
 fn draw_city(
     points: &mut Points,
     stops: &mut Vec<Stop>,
@@ -53,7 +53,7 @@ fn draw_city(
     Ok(())
 }
 
-/// Cities drawn at random, and where each stands on the way.
+/// Random cities, and the position of each on the way.
 fn placed(alloc: Global, n: u32, width: u32) -> Result<(Points, Vec<Stop>), AllocError>
     requires { 0 < width }
     ensures { IfOk result (λ r. length r.0 ≡ n) }
@@ -82,7 +82,7 @@ fn cities_of(alloc: Global, stops: &[Stop]) -> Result<Vec<u32>, AllocError> {
     Ok(cities)
 }
 
-/// Cities drawn at random, and the tour along strips of this width.
+/// Random cities, and the tour along strips of this width.
 pub fn along_strips(alloc: Global, n: u32, width: u32) -> Result<(Points, Vec<u32>), AllocError>
     requires { 0 < width }
     ensures { IfOk result (λ r. length r.0 ≡ n) }

@@ -1,20 +1,20 @@
-//! Times, and whether the lines of a run tell them.
+//! Times, and whether the lines of a run contain them.
 use std::time::Instant;
 use std::{fmt, io};
 
-/// Whether the lines of a run tell its times. Those of a stored run cannot, since no two runs take the same time.
+/// Whether the lines of a run contain its times. Those of a stored run do not, since no two runs take the same time.
 #[derive(Clone, Copy)]
 pub enum Times {
     Told,
     Hidden,
 }
 
-/// A time as a line tells it, in the line's unit; a hidden one is written as `-`.
+/// A time as a line contains it, in the unit of the line; a hidden one is written as `-`.
 #[derive(Clone, Copy)]
 pub struct Time(Option<u128>);
 
 impl Times {
-    /// A time as a line tells it.
+    /// A time as a line contains it.
     pub fn tell(self, time: u128) -> Time {
         match self {
             Times::Told => Time(Some(time)),

@@ -1,6 +1,6 @@
-//! How long a swap of a flip takes.
+//! Measures the time that a swap in a flip takes.
 //!
-//! A line has the cities, the swaps, the nanoseconds of all flips, and the city after the first one.
+//! Each line contains the number of cities, the swaps, the nanoseconds of all flips, and the city after city 1.
 ghost use Rattle.std.specs.Prelude.{◌<◌, ◌≤◌};
 
 use crate::cities::first_cities;
@@ -20,14 +20,14 @@ pub fn run(rt: &HostRuntime, times: Times) -> anyhow::Result<()> {
     }
 }
 
-/// So many flips of a tour of so many cities.
+/// Measures this many flips of a tour of n cities.
 fn measure(rt: &HostRuntime, times: Times, n: u32, flips: u32) -> anyhow::Result<()> {
     let cities = first_cities(rt.alloc(), n)?;
     let mut tour = ArrayTour::from_list(rt.alloc(), &cities)?;
     time_flips(rt, times, &mut tour, flips)
 }
 
-/// Makes and times so many flips.
+/// Makes and times this many flips.
 fn time_flips(
     rt: &HostRuntime,
     times: Times,
@@ -42,7 +42,7 @@ fn time_flips(
     Ok(())
 }
 
-/// A city of n, drawn at random.
+/// A random city from 1 to n.
 fn draw_city(state: &mut u64, n: u32) -> u32
     requires { 0 < n }
     ensures { (0 < result) × (result ≤ n) }
@@ -50,7 +50,7 @@ fn draw_city(state: &mut u64, n: u32) -> u32
     draw_below(state, n) + 1
 }
 
-/// Flips at steps drawn at random, and then answers the city after the first.
+/// Makes flips at random edges, and returns the city after city 1.
 fn flip_often(tour: &mut ArrayTour, flips: u32) -> u32 {
     let n = tour.size();
     let mut state = 1;
