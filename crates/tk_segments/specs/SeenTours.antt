@@ -1,5 +1,6 @@
 -- What is seen of a tour through runs of its array.
-use Rattle.std.specs.Prelude.{◌≡◌, ℕ, ◌+◌, ◌-◌, ◌/◌, ◌<◌, ◌≤◌, List, length, slice_index, vec_len}
+use Rattle.std.specs.Prelude.{◌≡◌, ℕ, ◌+◌, ◌-◌, ◌*◌, ◌/◌, ◌<◌, ◌≤◌, List, if◌then◌else◌, length, nat_le}
+use Rattle.std.specs.Prelude.{slice_index, vec_len}
 use Rattle.tk_tour.specs.Reversal.{begun_at, reversed_places}
 use Rattle.tk_segments.specs.Runs.{IsSpot, shown}
 use Rattle.tk_segments.specs.Writes.{ArePaid, changed}
@@ -22,6 +23,15 @@ room_of tour = tour.runs.most - 2
 abbrev pub array_of : SeenTour → List ℕ
 array_of tour = tour.order.items
 
+-- how many places of the array are written to make room for two more runs: none if there is room, otherwise all
+abbrev pub room_cost : SeenTour → ℕ
+room_cost tour = if nat_le (run_count_of tour) (room_of tour) then 0 else length (list_of tour)
+
+-- how many places of the array are written to reverse `count` places of the list: two for each exchange if the reversal
+-- is short, otherwise those that make room
+abbrev pub reversal_cost : SeenTour → ℕ → ℕ
+reversal_cost tour count = if nat_le count tour.short then 2 * (count / 2) else room_cost tour
+
 -- what has been written is still paid for by what has been swapped, when so much more has been written and swapped
 abbrev pub StaysPaid : SeenTour → SeenTour → ℕ → ℕ → Type 0
 StaysPaid old new written swapped = (writes swaps : ℕ) →
@@ -38,6 +48,7 @@ pub record SeesAt (tour : SeenTour) (city : ℕ) (spot : Spot) : Type 0 where
 -- `count` places of the list from the first on, from 0, are reversed; so many places of the array are written for it
 pub record IsReversed (old new : SeenTour) (first count cost : ℕ) : Type 0 where
   pub list : list_of new ≡ reversed_places first count (list_of old)
+  pub exact : cost ≡ reversal_cost old count
   pub paid : StaysPaid old new cost (count / 2)
   pub room : room_of new ≡ room_of old
   pub small : cost ≤ length (list_of old)

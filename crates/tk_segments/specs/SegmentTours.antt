@@ -3,7 +3,7 @@ use Rattle.std.specs.Prelude.{◌≡◌, ℕ, ◌+◌, ◌^◌, ◌<◌, ◌≤�
 use Rattle.std.proofs.Common.{◌∙◌, arith}
 use Rattle.tk_tour.specs.Counters.{saturated}
 use Rattle.tk_tour.specs.Tally.{Tally, OnlyFlips, OnlyFlips-refl, OnlyFlips-trans}
-use Rattle.tk_segments.specs.SeenTours.{array_of, list_of, run_count_of, room_of}
+use Rattle.tk_segments.specs.SeenTours.{array_of, list_of, reversal_cost, run_count_of, room_of}
 use Rattle.tk_segments.specs.Writes.{changed}
 use Rattle.tk_segments.specs.WriteLaws.{changed-refl, changed-trans}
 use Rattle.tk_segments.specs.declared.tour.SegmentTour.{SegmentTour}
@@ -39,6 +39,11 @@ segments_of tour = run_count_of tour.seen
 
 abbrev pub most_of : SegmentTour → ℕ
 most_of tour = room_of tour.seen + 2
+
+-- how many places of its array it writes to reverse `count` places: two for each exchange if the reversal is short;
+-- otherwise none, or all if there is no room for two more segments
+abbrev pub write_cost : SegmentTour → ℕ → ℕ
+write_cost tour count = reversal_cost tour.seen count
 
 abbrev pub seen_tally : SegmentTour → Tally
 seen_tally tour = record {

@@ -58,7 +58,8 @@ impl Placed for SeenTour {
 }
 
 impl SeenTour {
-    ghost use Rattle.tk_segments.specs.SeenTours.{IsReversed, SeesAt, array_of, list_of, room_of, run_count_of};
+    ghost use Rattle.tk_segments.specs.SeenTours.{IsReversed, SeesAt, array_of, list_of, room_cost, room_of};
+    ghost use Rattle.tk_segments.specs.SeenTours.{run_count_of};
 
     /// The tour stands as the list does.
     pub fn new(
@@ -270,6 +271,7 @@ impl SeenTour {
     fn make_room(&mut self) -> u64
         ensures list { list_of self.new ≡ list_of self.old }
         ensures begin { self.new.begin ≡ self.old.begin }
+        ensures exact { result ≡ room_cost self.old }
         ensures runs { run_count_of self.new ≤ room_of self.new }
         ensures paid { (writes swaps : ℕ)
             → ArePaid (length (list_of self.old)) (room_of self.old) writes (run_count_of self.old) swaps

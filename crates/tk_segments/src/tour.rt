@@ -119,19 +119,45 @@ impl TourStore for SegmentTour {
 }
 
 impl UndoStore for SegmentTour {
-    ghost use Rattle.tk_segments.specs.SegmentTours.{seen_undo_swaps, seen_copied, SeenFlips-kept, SegmentTour-fits};
+    ghost use Rattle.tk_segments.specs.SegmentTours.{seen_order, seen_swaps, seen_undo_swaps, seen_flips, seen_copied};
+    ghost use Rattle.tk_segments.specs.SegmentTours.{writes_of, write_cost, seen_array, most_of, SeenFlips-kept};
+    ghost use Rattle.tk_segments.specs.SegmentTours.{SegmentTour-fits};
+    ghost use Rattle.tk_distance.specs.Cities.{IsCity};
+    ghost use Rattle.tk_tour.specs.Reversal.{reversed_places};
+    ghost use Rattle.tk_tour.specs.Counters.{saturated};
+    ghost use Rattle.tk_segments.specs.Writes.{changed};
 
     ghost undo_count = { seen_undo_swaps };
 
     ghost copy_count = { seen_copied };
 
-    fn undo(&mut self, flip: &Flip) {
+    fn undo(&mut self, flip: &Flip)
+        requires first { IsCity (length (seen_order self.old)) flip.now.first }
+        requires count { 2 * flip.now.count ≤ length (seen_order self.old) }
+        ensures places { seen_order self.new
+            ≡ reversed_places (flip.now.first - 1) flip.now.count (seen_order self.old) }
+        ensures undo_swaps { seen_undo_swaps self.new ≡ saturated (seen_undo_swaps self.old + flip.now.count / 2) }
+        ensures others { (seen_swaps self.new ≡ seen_swaps self.old) × (seen_flips self.new ≡ seen_flips self.old)
+            × (seen_copied self.new ≡ seen_copied self.old) }
+        ensures writes { writes_of self.new ≡ saturated (writes_of self.old + write_cost self.old flip.now.count) }
+        ensures written { changed (seen_array self.old) (seen_array self.new) ≤ write_cost self.old flip.now.count }
+        ensures most { most_of self.new ≡ most_of self.old }
+    {
         let written = self.seen.undo(flip.first - 1, flip.count);
         self.writes = self.writes.saturating_add(written);
         self.undo_swaps = self.undo_swaps.saturating_add(flip.count as u64 / 2);
     }
 
-    fn take_order(&mut self, cities: &[u32]) {
+    fn take_order(&mut self, cities: &[u32])
+        requires tour { IsSizedTour cities.now }
+        requires size { length cities.now ≡ length (seen_order self.old) }
+        ensures order { seen_order self.new ≡ cities.now }
+        ensures copied { seen_copied self.new ≡ saturated (seen_copied self.old + length cities.now) }
+        ensures others { (seen_swaps self.new ≡ seen_swaps self.old) × (seen_flips self.new ≡ seen_flips self.old)
+            × (seen_undo_swaps self.new ≡ seen_undo_swaps self.old) }
+        ensures writes { writes_of self.new ≡ writes_of self.old }
+        ensures most { most_of self.new ≡ most_of self.old }
+    {
         self.seen.take_order(cities);
         self.copied = self.copied.saturating_add(cities.len() as u64);
     }
@@ -148,7 +174,13 @@ impl UndoStore for SegmentTour {
         self.copied
     }
 
-    fn reset_counts(&mut self) {
+    fn reset_counts(&mut self)
+        ensures order { seen_order self.new ≡ seen_order self.old }
+        ensures counts { (seen_swaps self.new ≡ 0) × (seen_undo_swaps self.new ≡ 0) × (seen_flips self.new ≡ 0)
+            × (seen_copied self.new ≡ 0) }
+        ensures writes { writes_of self.new ≡ 0 }
+        ensures most { most_of self.new ≡ most_of self.old }
+    {
         self.seen.rewrite();
         self.swaps = 0;
         self.undo_swaps = 0;
@@ -164,7 +196,7 @@ impl UndoStore for SegmentTour {
 
 impl SegmentTour {
     ghost use Rattle.tk_segments.specs.SegmentTours.{seen_order, seen_swaps, seen_undo_swaps, seen_flips, seen_copied};
-    ghost use Rattle.tk_segments.specs.SegmentTours.{writes_of, seen_array, segments_of, most_of};
+    ghost use Rattle.tk_segments.specs.SegmentTours.{writes_of, write_cost, seen_array, segments_of, most_of};
     ghost use Rattle.tk_tour.specs.Reversal.{reversed_places};
     ghost use Rattle.tk_tour.specs.Counters.{saturated};
     ghost use Rattle.tk_segments.specs.Writes.{changed};
@@ -240,8 +272,8 @@ impl SegmentTour {
         requires count { 2 * count ≤ length (seen_order self.old) }
         ensures order { seen_order self.new ≡ reversed_places first count (seen_order self.old) }
         ensures swaps { seen_swaps self.new ≡ saturated (seen_swaps self.old + count / 2) }
-        ensures writes { saturated (writes_of self.old + changed (seen_array self.old) (seen_array self.new))
-            ≤ writes_of self.new }
+        ensures writes { writes_of self.new ≡ saturated (writes_of self.old + write_cost self.old count) }
+        ensures written { changed (seen_array self.old) (seen_array self.new) ≤ write_cost self.old count }
         ensures size { length (seen_array self.new) ≡ length (seen_array self.old) }
         ensures others { (seen_flips self.new ≡ seen_flips self.old)
             × (seen_undo_swaps self.new ≡ seen_undo_swaps self.old)

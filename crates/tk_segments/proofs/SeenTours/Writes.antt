@@ -1,8 +1,11 @@
 -- What is written is paid by swaps: a potential.
-use Rattle.std.proofs.Common.{◌≡◌, ℕ, ◌+◌, ◌-◌, ◌*◌, ◌<◌, ◌≤◌, ◌^◌, ⊎_elim, subst, ap, arith}
-use Rattle.std.proofs.lemmas.Bool.{cases_lt}
+use Rattle.std.proofs.Common.{◌≡◌, ℕ, ◌+◌, ◌-◌, ◌*◌, ◌/◌, ◌<◌, ◌≤◌, ◌^◌, Bool, ⊎_elim, length, subst, ap, arith}
+use Rattle.std.specs.Prelude.{if◌then◌else◌}
+use Rattle.std.proofs.lemmas.Bool.{cases_lt, le-leb, lt-leb}
 use Rattle.tk_tour.specs.Counters.{saturated}
+use Rattle.tk_segments.specs.SeenTours.{list_of, reversal_cost, room_cost, room_of, run_count_of}
 use Rattle.tk_segments.specs.Writes.{ArePaid}
+use Rattle.tk_segments.specs.declared.seen.SeenTour.{SeenTour}
 
 less_times : (a b c : ℕ) → b ≤ c → a * b ≤ a * c
 less_times a b c le = grind arith
@@ -43,6 +46,24 @@ writes_bound n room writes runs swaps some h =
     let b : 2 * (room * swaps) ≡ room * (2 * swaps) = grind arith in
     factor room writes (2 * swaps) some (omega (arith, h.paid, b))
 
+-- how many places are written to make room for two more runs, and to reverse `count` places
+pub room_cost-none : (tour : SeenTour) → run_count_of tour ≤ room_of tour → room_cost tour ≡ 0
+room_cost-none tour le =
+    ap (λ (b : Bool). if b then 0 else length (list_of tour)) (le-leb (run_count_of tour) (room_of tour) le)
+
+pub room_cost-all : (tour : SeenTour) → room_of tour < run_count_of tour → room_cost tour ≡ length (list_of tour)
+room_cost-all tour lt =
+    ap (λ (b : Bool). if b then 0 else length (list_of tour)) (lt-leb (run_count_of tour) (room_of tour) lt)
+
+pub reversal_cost-short : (tour : SeenTour) (count : ℕ) → count ≤ tour.short →
+    reversal_cost tour count ≡ 2 * (count / 2)
+reversal_cost-short tour count le =
+    ap (λ (b : Bool). if b then 2 * (count / 2) else room_cost tour) (le-leb count tour.short le)
+
+pub reversal_cost-long : (tour : SeenTour) (count : ℕ) → tour.short < count → reversal_cost tour count ≡ room_cost tour
+reversal_cost-long tour count lt =
+    ap (λ (b : Bool). if b then 2 * (count / 2) else room_cost tour) (lt-leb count tour.short lt)
+
 -- counters that stand still at their greatest value
 paid_saturated : (n room writes runs swaps : ℕ) → ArePaid n room writes runs swaps → 1 ≤ room → n ≤ 100000 →
     runs ≤ 100000 →
@@ -76,12 +97,17 @@ pub paid_fewer : (n room writes runs swaps runs' : ℕ) → ArePaid n room write
 paid_fewer n room writes runs swaps runs' h some le =
     record { some = some; paid = omega (arith, h.paid, less_times n (runs' - 1) (runs - 1) (omega (arith, le))) }
 
-pub paid_alike : (n n' room room' writes writes' runs swaps swaps' : ℕ) → n ≡ n' → room ≡ room' → writes ≡ writes' →
+-- fewer writes
+paid_less : (n room writes writes' runs swaps : ℕ) → writes' ≤ writes → ArePaid n room writes runs swaps →
+    ArePaid n room writes' runs swaps
+paid_less n room writes writes' runs swaps le h =
+    record { some = h.some; paid = omega (arith, h.paid, less_times room writes' writes le) }
+
+pub paid_alike : (n n' room room' writes writes' runs swaps swaps' : ℕ) → n ≡ n' → room ≡ room' → writes' ≤ writes →
     swaps ≡ swaps' → ArePaid n room writes runs swaps →
     ArePaid n' room' writes' runs swaps'
 paid_alike n n' room room' writes writes' runs swaps swaps' e f g i h =
     let P : ℕ → Type 0 = λ u. ArePaid u room writes runs swaps in
     let Q : ℕ → Type 0 = λ u. ArePaid n' u writes runs swaps in
-    let R : ℕ → Type 0 = λ u. ArePaid n' room' u runs swaps in
-    let S : ℕ → Type 0 = λ u. ArePaid n' room' writes' runs u in
-    subst S i (subst R g (subst Q f (subst P e h)))
+    let R : ℕ → Type 0 = λ u. ArePaid n' room' writes runs u in
+    paid_less n' room' writes writes' runs swaps' g (subst R i (subst Q f (subst P e h)))

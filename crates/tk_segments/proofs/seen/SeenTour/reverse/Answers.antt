@@ -4,7 +4,8 @@ use Rattle.tk_segments.specs.SeenTours.{array_of, list_of, room_of, run_count_of
 use Rattle.tk_segments.specs.Writes.{ArePaid, changed}
 use Rattle.tk_tour.proofs.StoredTours.Places.{length-reversed_places}
 use Rattle.tk_segments.proofs.SeenTours.Facts.{facts, size_again, seen_in}
-use Rattle.tk_segments.proofs.SeenTours.Writes.{paid_exchange, paid_turn, paid_alike}
+use Rattle.tk_segments.proofs.SeenTours.Writes.{paid_exchange, paid_turn, paid_alike, reversal_cost-long}
+use Rattle.tk_segments.proofs.SeenTours.Writes.{reversal_cost-short}
 use Rattle.tk_segments.proofs.seen.SeenTour.reverse.Goals as goal
 
 pub exchange-requires-clause-first : goal.exchange-requires-clause-first
@@ -23,9 +24,10 @@ returns-then-count-self c =
     let list = k.ensures.list c.args.first c.requires.first c.seen_from-v.ensures in
     record {
       list = list;
+      exact = k.ensures.count ∙ sym (reversal_cost-short s c.args.count c.if-count-self.true);
       paid = subst P (sym k.ensures.runs)
           (λ writes swaps h. paid_alike n n (room_of s) (room_of s) (writes + 2 * m) (writes + k.result)
-          (run_count_of s) (swaps + m) (swaps + m) refl refl (ap (λ u. writes + u) (sym k.ensures.count)) refl
+          (run_count_of s) (swaps + m) (swaps + m) refl refl (omega (arith, k.ensures.count)) refl
           (paid_exchange n (room_of s) writes (run_count_of s) swaps m h));
       room = k.ensures.room;
       small = omega (arith, k.ensures.count, c.requires.count);
@@ -55,6 +57,7 @@ returns c =
       list = t.ensures.list c.args.first (rw m.ensures.list c.requires.first)
           (rw (m.ensures.list, m.ensures.begin) c.seen_from-v.ensures)
           ∙ ap (reversed_places c.args.first c.args.count) m.ensures.list;
+      exact = m.ensures.exact ∙ sym (reversal_cost-long s c.args.count c.if-count-self.false);
       paid = λ writes swaps h.
           paid_turn (length (list_of s)) (room_of s) (writes + m.result) (run_count_of m.new.self) swaps
           (run_count_of t.new.self)

@@ -14,6 +14,7 @@ returns c =
     let P : List ℕ → Type 0 = λ u. changed (array_of s) u ≤ r.result in
     record {
       list = t.ensures.list ∙ j.ensures.list ∙ r.ensures.list;
+      exact = r.ensures.exact;
       paid = λ writes swaps h.
           paid_fewer (length (list_of s)) (room_of s) (writes + r.result) (run_count_of r.new.self)
           (swaps + c.args.count / 2) (run_count_of t.new.self) (r.ensures.paid writes swaps h)

@@ -1,4 +1,4 @@
-use Rattle.std.proofs.Common.{◌/◌, rules}
+use Rattle.std.proofs.Common.{◌/◌, arith, rules}
 use Rattle.tk_segments.specs.SeenTours.{list_of}
 use Rattle.tk_tour.proofs.StoredTours.Sides.{IsFlipped, flipped}
 use Rattle.tk_segments.proofs.tour.SegmentTourTourStore.flip.Goals as goal
@@ -41,5 +41,5 @@ returns-clause-kept c =
           };
       most = c.reverse.ensures.others.3;
       size = c.reverse.ensures.size;
-      writes = c.reverse.ensures.writes;
+      writes = omega (arith, c.reverse.ensures.writes, c.reverse.ensures.written);
     }
