@@ -7,8 +7,8 @@ use tk_diagnosis::{FileFault, Kind, last_line};
 use tk_params::{ParamFault, ParamKind};
 use tk_words::{TextFault, TextKind};
 
-/// The fault of a file of this kind that could be read only up to the end of these bytes, as commands that expect such
-/// a file report it.
+/// The fault of a file of this kind that could be read only up to the end of these bytes. Commands that expect such a
+/// file report the same fault.
 pub fn unread_fault(kind: Kind, text: &[u8]) -> FileFault
     ensures { result ≡ unread_of kind (line_behind text.now) }
 {

@@ -39,8 +39,8 @@ report_of distance run = record { best = pos (run_length distance run); totals =
 abbrev pub words_of : ℕ → Stream
 words_of seed = stream_of (steps_u32 pcg32) (pcg32_of_seed (pcg32_seed 16 seed))
 
--- t trials of a search, one after another, and the event of each, which `told` makes of the number of the trial,
--- counted from 0, of the length of the tour that it ended with, and of the search after it
+-- t trials of a search, one after another, and the event of each; `told` makes the event from the number of the trial,
+-- counted from 0, the length of the tour that it ended with, and the search after it
 pub data Trials (told : ℕ → ℤ → Searching → Event) (begun : Searching) (words : Stream) :
     ℕ → List Event → Searching → Stream → Type 0 where
   untried : Trials told begun words 0 [] begun words

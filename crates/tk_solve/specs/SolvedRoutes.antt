@@ -7,8 +7,8 @@ use Rattle.tk_routes.specs.Routes.{AreRoutes}
 use Rattle.tk_routes.specs.SavingsRoutes.{AreSavingsRoutes}
 use Rattle.tk_routes.specs.declared.solving.route_report.RouteReport.{RouteReport}
 
--- The routes of the savings algorithm over near lists of the nodes, each then improved on its own by a descent with all
--- its nodes awake. Each customer is on one route, and no load exceeds the capacity.
+-- The routes of the savings algorithm over near lists of the nodes. Each route is then improved on its own, by a
+-- descent with all its nodes awake. Each customer is on one route, and no load exceeds the capacity.
 pub record AreSolved (i : Instance) (candidates segment : ℕ) (routes : List (List ℕ))
     (report : RouteReport) : Type 0 where
   pub near : NearLists

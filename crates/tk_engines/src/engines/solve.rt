@@ -196,8 +196,9 @@ fn solve_problem<I: Source, F: Sink, W: Sink, V: Watch>(
 /// routes, and the best length.
 ///
 /// `initial` is read if the parameters name an INITIAL_TOUR_FILE. All texts are read before a byte is written. In a
-/// search for a tour, `watch` is shown the name of the problem, each trial, with the best tour of its run up to then,
-/// and each run after its last trial, in order, and nothing else. In a search for routes, it is shown nothing.
+/// search for a tour, `watch` is shown the name of the problem, then each trial with the best tour of its run up to
+/// then, and each run after its last trial. All this is shown in order, and nothing else is. In a search for routes,
+/// `watch` is shown nothing.
 ///
 /// # Errors
 /// The fault of the problem text; `NotForType` for a key that does not apply to the problem's type; the fault of the

@@ -23,7 +23,7 @@ pub fn expect_numbers<A: Abort>(rt: &A, params: &Params, numbers: [u32; 5]) {
     assert!(rt; params.or_segment() == segment);
 }
 
-/// Checks that the names of files are taken as they are, and that a key that is ignored is listed.
+/// Checks that file names are taken as they are, and that an ignored key is listed.
 fn expect_words<A: Abort>(rt: &A, params: &Params) {
     assert!(rt; params.problem_file() == " a ");
     assert!(rt; params.tour_file() == Some("b"));

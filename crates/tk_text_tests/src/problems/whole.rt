@@ -340,8 +340,8 @@ fn coordinates(rt: HostRuntime) {
     accept(&rt, rt.alloc(), text, &wanted);
 }
 
-/// Checks that the first part, followed by each last part, is read as a TSP of these points, with the name and the
-/// distance type next to it.
+/// Checks that the first part, followed by each last part, is read as a TSP of these points. Its name and its distance
+/// type are next to the last part.
 fn accept_two<'a>(
     rt: &impl Abort,
     alloc: Global,

@@ -75,8 +75,8 @@ fn lists_of_places(rt: &impl Abort, alloc: Global, planes: &Planes<'_>, k: u32) 
     scanned
 }
 
-/// A distance type, corners whose coordinates are whole numbers of a unit, this unit, the length of the near lists, and
-/// all of them, one after another.
+/// A distance type; corners as whole numbers of a unit, and this unit; the length of the near lists; and all lists, one
+/// after another.
 type Row<'a> = (PlaneKind, &'a [(u16, u16)], u32, u32, &'a [u32]);
 
 /// Checks that the near lists are these, along x and along y.

@@ -145,7 +145,7 @@ fn rewinds(rt: HostRuntime) {
     assert!(rt; tour.rewind() && stands(&tour, &[8, 2, 3, 4, 5, 6, 7, 1]));
 }
 
-/// Checks that a tour whose journal lost a flip takes the order in which it began.
+/// Checks that a tour with a lost flip takes the order in which it began.
 fn expect_restored(rt: &impl Abort, tour: &mut JournalTour<ArrayTour>, start: &ArrayTour) {
     assert!(rt; tour.size() == 8);
     assert!(rt; start.size() == 8);
