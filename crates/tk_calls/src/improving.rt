@@ -1,4 +1,4 @@
-//! Routes.
+//! The construction and improvement of routes.
 ghost use Rattle.std.specs.Prelude.{◌≡◌, IfOk};
 ghost use Rattle.tk_routes.specs.RouteLists.{instance_of_routes};
 ghost use Rattle.tk_routes.specs.Cvrps.{instance_of};

@@ -1,4 +1,4 @@
--- The word of a line.
+-- The word at the front of a line.
 use Rattle.std.specs.Prelude.{ℕ, List, [], ◌∷◌, if◌then◌else◌}
 use Rattle.tk_words.specs.Lex.{behind, is_letter, is_word_byte}
 

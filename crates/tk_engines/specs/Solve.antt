@@ -42,7 +42,8 @@ use Rattle.tk_engines.specs.declared.fault.Fault.TheVariants.{Initial, NoMemory,
 
 -- ---- input
 
--- the first key that does not apply to a problem of this type: a CVRP has no tour, and a TSP has no solution
+-- the first key that does not apply to a problem of this type: no tour is read or written for a CVRP, and no solution
+-- is written for a TSP
 abbrev pub unfit_key : ParamsAre → ProblemIs → Option Key
 unfit_key p problem =
     if is_none problem.routing then (if is_some p.solution_file then Some keys.SolutionFile else None)

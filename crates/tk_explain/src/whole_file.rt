@@ -77,7 +77,8 @@ fn add_fault(page: &mut Page, file: &File<'_>, fault: &FileFault) -> Result<(), 
     add_at(page, file, fault, &file.spot(fault.line()))
 }
 
-/// Adds the diagnosis of a fault at its line. If the file is not a text, the usual causes are left out.
+/// Adds the diagnosis of a fault at its line. If the file is not a text that can be read, the usual causes are left
+/// out.
 fn add_at(
     page: &mut Page,
     file: &File<'_>,

@@ -9,7 +9,7 @@ use Rattle.tk_text.specs.SolutionWritten.{solution_text}
 use Rattle.tk_text.specs.Problem.{Lower}
 use Rattle.tk_text_tests.specs.ProblemExamples.{ProblemAnswer, problem_of, tsp}
 
--- a text as it is written
+-- the text itself, as it is written
 abbrev pub itself : List ℕ → List ℕ
 itself text = text
 

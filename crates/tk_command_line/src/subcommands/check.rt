@@ -31,7 +31,7 @@ static ARGUMENTS: [Argument; 3] = [
     JSON,
 ];
 
-/// The subcommand.
+/// The subcommand `check`.
 pub fn subcommand() -> Subcommand {
     Subcommand {
         kind: Kind::Check,

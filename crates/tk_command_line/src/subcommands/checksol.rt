@@ -31,7 +31,7 @@ static ARGUMENTS: [Argument; 3] = [
     JSON,
 ];
 
-/// The subcommand.
+/// The subcommand `checksol`.
 pub fn subcommand() -> Subcommand {
     Subcommand {
         kind: Kind::Checksol,

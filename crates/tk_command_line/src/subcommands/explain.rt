@@ -36,7 +36,7 @@ static ARGUMENTS: [Argument; 2] = [
     },
 ];
 
-/// The subcommand.
+/// The subcommand `explain`.
 pub fn subcommand() -> Subcommand {
     Subcommand {
         kind: Kind::Explain,

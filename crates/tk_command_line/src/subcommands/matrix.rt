@@ -42,7 +42,7 @@ static ARGUMENTS: [Argument; 2] = [
     },
 ];
 
-/// The subcommand.
+/// The subcommand `matrix`.
 pub fn subcommand() -> Subcommand {
     Subcommand {
         kind: Kind::Matrix,

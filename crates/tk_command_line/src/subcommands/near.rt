@@ -31,7 +31,7 @@ static ARGUMENTS: [Argument; 2] = [
     },
 ];
 
-/// The subcommand.
+/// The subcommand `near`.
 pub fn subcommand() -> Subcommand {
     Subcommand {
         kind: Kind::Near,

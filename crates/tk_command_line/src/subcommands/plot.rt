@@ -41,7 +41,7 @@ static ARGUMENTS: [Argument; 3] = [
     },
 ];
 
-/// The subcommand.
+/// The subcommand `plot`.
 pub fn subcommand() -> Subcommand {
     Subcommand {
         kind: Kind::Plot,

@@ -98,7 +98,7 @@ static ARGUMENTS: [Argument; 12] = [
     JSON,
 ];
 
-/// The subcommand.
+/// The subcommand `solve`.
 pub fn subcommand() -> Subcommand {
     Subcommand {
         kind: Kind::Solve,
