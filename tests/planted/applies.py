@@ -2,11 +2,11 @@
 
 import re
 
-# A message; a line that begins a function or a constant, with its indent, and what follows the indent where it ends; a name with what
-# stands on either side of it; the name of a function in a title; what is not code.
+# A message; a line that begins a function, with its indent, and what follows the indent at its end; a name with what is on either side of
+# it; the name of a function in a title; what is not code.
 MESSAGE = re.compile(r"^ *#\[error\(")
-ITEM = re.compile(r'^( *)(?:pub(?:\([^)]*\))? )?(?:(?:const )?(?:extern "C" )?fn|const) \w+')
-END = re.compile(r"\}|\{\}|\];")
+FUNCTION = re.compile(r'^( *)(?:pub(?:\([^)]*\))? )?(?:const )?(?:extern "C" )?fn \w+')
+END = re.compile(r"\}|\{\}")
 NAME = re.compile(r"(?:(?<=(\.))|(?<=(::)))?\b([A-Za-z_]\w*)\b(?=(::|:|\(|!(?!=))?)")
 TITLE = re.compile(r"(?:^|[(,]) *(?:\w+::)?([a-z_]+)(?=$|[ ,]*[(),])")
 TEXT = re.compile(r"""b?"(?:[^"\\]|\\.)*"|b?'(?:[^'\\]|\\.)'|//.*""")
@@ -60,7 +60,8 @@ class Sources:
         elif old.count("\n") != new.count("\n"):
             yield f"{new!r} has another number of lines than {old!r}"
         elif path in self.texts:
-            part = part_around(text.splitlines(), text[: text.index(old.lstrip())].count("\n"))
+            begin = text.index(old) + len(old) - len(old.lstrip())
+            part = part_around(text.splitlines(), text.count("\n", 0, begin))
             if part is None:
                 yield f"{old!r} is in no function of {path.name}"
             else:
@@ -78,10 +79,11 @@ class Sources:
 
 
 def part_around(lines, row):
-    """The message, function or constant that a row is in, as a text, or None outside any."""
+    """The message or the function that a row is in, as a text, or None outside any."""
     if MESSAGE.match(lines[row]):
         return lines[row]
-    begin, indent = next(((k, item[1]) for k in range(row, -1, -1) if (item := ITEM.match(lines[k]))), (0, ""))
+    begin = next((k for k in range(row, -1, -1) if FUNCTION.match(lines[k])), len(lines))
+    indent = FUNCTION.match(lines[begin])[1] if begin <= row else ""
     end = next((k for k in range(begin, len(lines)) if lines[k].startswith(indent) and END.match(lines[k], len(indent))), -1)
     return "\n".join(lines[begin : end + 1]) if row <= end else None
 
