@@ -1,4 +1,4 @@
-"""Whether the wrong bodies of tests/planted still fit the sources, by their text alone: nothing is compiled or proved."""
+"""Checks that the wrong bodies of tests/planted still fit the sources, by comparing text: nothing is compiled or proved."""
 
 import re
 
@@ -42,18 +42,18 @@ class Sources:
         """The names of the functions of the crate in a folder."""
         return {name for path, text in self.texts.items() if folder in path.parents for name in re.findall(r"\bfn (\w+)", text)}
 
-    def complaints(self, body, folder, functions):
-        """What is wrong with a body of the crate in a folder, which has these functions."""
+    def faults(self, body, folder, functions):
+        """The faults of a body of the crate in a folder, which has these functions."""
         yield from (f"there is no function {name}" for name in TITLE.findall(body.title.partition(": ")[0]) if name not in functions)
         if all(old.split() == new.split() for _, old, new in body.changes):
             yield "it changes nothing"
         codes = [code_of(new) for _, _, new in body.changes]
         bound = {name for code in codes for binder in BINDERS for part in re.findall(binder, code) for name in words_of(part)}
         for file, old, new in body.changes:
-            yield from self.complaints_of_change(folder / file, old, new, bound)
+            yield from self.faults_of_change(folder / file, old, new, bound)
 
-    def complaints_of_change(self, path, old, new, bound):
-        """What is wrong with a change: its old text is not in the file once, or its new text has names that are not known there."""
+    def faults_of_change(self, path, old, new, bound):
+        """The faults of a change: its old text is not in the file once, or its new text has names that are not known there."""
         text = path.read_text(encoding="utf-8") if path.is_file() else ""
         if text.count(old) != 1:
             yield f"{path.name} has {old!r} {text.count(old)} times"
@@ -89,14 +89,14 @@ def part_around(lines, row):
 
 
 def check(bodies_of, crates):
-    """Prints which bodies do not fit, and how many do and do not. Gives whether all do."""
+    """Prints the bodies that do not fit, and the numbers of those that do and do not. Returns whether all do."""
     sources, passed, failed = Sources(crates), 0, 0
     for crate, bodies in bodies_of.items():
         functions = sources.functions_of(crates / crate)
         for body in bodies:
-            wrong = [*sources.complaints(body, crates / crate, functions)]
+            wrong = [*sources.faults(body, crates / crate, functions)]
             passed, failed = passed + (not wrong), failed + bool(wrong)
-            for complaint in wrong:
-                print(f"{crate}: {body.title}: {complaint}")
+            for fault in wrong:
+                print(f"{crate}: {body.title}: {fault}")
     print(f"{passed} passed, {failed} failed")
     return not failed and passed > 0
