@@ -4,7 +4,7 @@
 --     IsBridged old new a1 an b1 bn c1 cn d1 dn      the double bridge (O. Martin, S. W. Otto and E. W. Felten, 1991)
 --     ReplacesSteps old new a b c d      what a flip promises: the 2-opt move at every cut of the cycle at those steps
 --     CanFlip cities a b c d      where a flip may be made
-use Rattle.std.specs.Prelude.{◌≡◌, ◌≢◌, ℕ, ◌*◌, ◌<◌, ◌≤◌, ◌⊎◌, List, ◌++◌, length, min, reverse}
+use Rattle.std.specs.Prelude.{◌≡◌, ◌≢◌, ℕ, ◌*◌, ◌<◌, ◌≤◌, ◌⊎◌, List, ◌++◌, length, min, reverse, slice_index}
 use Rattle.tk_distance.specs.Cities.{IsCity}
 use Rattle.tk_tour.specs.Reversal.{reversed_places}
 use Rattle.tk_tour.specs.Tour.{SameCycle, IsPath, next_city, prev_city}
@@ -53,6 +53,13 @@ pub record TurnsShorterSide (cities : List ℕ) (first count a b c d : ℕ) : Ty
   pub within : first < length cities
   pub side : IsShorterSide cities count a b c d
   pub shorter : 2 * count ≤ length cities
+
+-- The inner side of a cut at the steps a-b and c-d begins at the place `first`, from 0. It is the path from b to c that
+-- leaves a out. In the list it goes from c to b if b is the city before a.
+abbrev pub BeginsInside : List ℕ → ℕ → ℕ → ℕ → ℕ → Type 0
+BeginsInside cities first a b c =
+    ((b ≡ next_city cities a) × (slice_index cities first ≡ b))
+    ⊎ ((b ≡ prev_city cities a) × (slice_index cities first ≡ c))
 
 -- The Or-move of I. Or (1976). A segment of at most m cities runs from x to e, with a before it and b after it. It
 -- moves, as it runs or turned round, to between y and w: a-b, x-y and e-w come in place of the steps a-x, e-b and y-w.

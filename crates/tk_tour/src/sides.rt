@@ -1,8 +1,8 @@
 //! The two sides of a cut at two steps, of which a flip reverses the shorter one.
-ghost use Rattle.std.specs.Prelude.{◌≡◌, ◌≤◌, ◌<◌, ℕ, List, length, slice_index};
+ghost use Rattle.std.specs.Prelude.{◌≡◌, ◌≤◌, ◌<◌, ◌*◌, ℕ, List, length, slice_index};
 ghost use Rattle.tk_problem.specs.declared.limits.TheConstants.{CITY_LIMIT};
 ghost use Rattle.tk_distance.specs.Cities.{IsCity};
-ghost use Rattle.tk_tour.specs.Moves.{AreForward, CanFlip, TurnsShorterSide};
+ghost use Rattle.tk_tour.specs.Moves.{AreForward, BeginsInside, CanFlip, TurnsShorterSide};
 ghost use Rattle.tk_tour.specs.Places.{PathLength};
 ghost use Rattle.tk_tour.specs.Tour.{IsSizedTour, next_city};
 
@@ -49,7 +49,8 @@ fn path_length(n: u32, from: u32, to: u32) -> u32
 // the first from 0 and their number.
 fn side_ahead<S: Placed>(tour: &S, a: u32, b: u32, c: u32, d: u32) -> (u32, u32)
     requires { AreForward (S.cities tour.now) a b c d }
-    ensures { TurnsShorterSide (S.cities tour.now) result.0 result.1 a b c d }
+    ensures side { TurnsShorterSide (S.cities tour.now) result.0 result.1 a b c d }
+    ensures inner { 2 * result.1 ≡ length (S.cities tour.now) → slice_index (S.cities tour.now) result.0 ≡ b }
 {
     let n = tour.city_count();
     let start = tour.place_of(b);
@@ -60,10 +61,12 @@ fn side_ahead<S: Placed>(tour: &S, a: u32, b: u32, c: u32, d: u32) -> (u32, u32)
     (tour.place_of(d), n - inner)
 }
 
-/// The places that a flip of the steps a-b and c-d reverses, as the first from 0 and their number.
+/// The places that a flip of the steps a-b and c-d reverses, as the first from 0 and their number: those of the shorter
+/// side, or of the inner side if both are equally long.
 pub fn shorter_side<S: Placed>(tour: &S, a: u32, b: u32, c: u32, d: u32) -> (u32, u32)
     requires { CanFlip (S.cities tour.now) a b c d }
-    ensures { TurnsShorterSide (S.cities tour.now) result.0 result.1 a b c d }
+    ensures side { TurnsShorterSide (S.cities tour.now) result.0 result.1 a b c d }
+    ensures inner { 2 * result.1 ≡ length (S.cities tour.now) → BeginsInside (S.cities tour.now) result.0 a b c }
 {
     if tour.city_after(a) == b && tour.city_after(c) == d {
         side_ahead(tour, a, b, c, d)

@@ -64,7 +64,7 @@ cities_after cities a b c d tour f =
     let p = places_exist cities tour in
     (rw f.b_after (next_city-in cities p.0 a tour p.1 f.a_in), rw f.d_after (next_city-in cities p.0 c tour p.1 f.c_in))
 
--- the places from b to c, where there are no more of them than others, and those from d to a, where there are fewer
+-- the places from b to c, or those from d to a, if there are no more of them than others
 module _ (cities : List ℕ) (n a b c d m pb pc : ℕ) (tour : IsTour (length cities) cities) (is_n : n ≡ length cities)
     (f : AreForward cities a b c d) (lb : pb < length cities) (atb : get_or cities pb 0 ≡ b) (lc : pc < length cities)
     (atc : get_or cities pc 0 ≡ c) (path : PathLength n m pb pc) where
@@ -93,16 +93,16 @@ module _ (cities : List ℕ) (n a b c d m pb pc : ℕ) (tour : IsTour (length ci
     shorter = omega (arith, is_n, le, inner.1);
   }
 
-  pub outer_side : (pd : ℕ) → pd < length cities → get_or cities pd 0 ≡ d → n - m < m →
+  pub outer_side : (pd : ℕ) → pd < length cities → get_or cities pd 0 ≡ d → n - m ≤ m →
       TurnsShorterSide cities pd (n - m) a b c d
-  outer_side pd ld atd lt = record {
+  outer_side pd ld atd le = record {
     steps =
         rw is_n
         (flip_outer cities inverse.0 a b c d m pb pc pd tour inverse.1 f.a_in f.c_in f.apart f.b_after f.d_after eb ec
         (sym (place_is cities inverse.0 pd d inverse.1 ld (sym atd))) long);
     within = ld;
-    side = λ front back pf pk q. omega (arith, is_n, lt, inner.3 front back pf pk q);
-    shorter = omega (arith, is_n, lt, inner.1);
+    side = λ front back pf pk q. omega (arith, is_n, le, inner.3 front back pf pk q);
+    shorter = omega (arith, is_n, le, inner.1);
   }
 
 -- which way the steps run, where they do not run ahead

@@ -1,5 +1,5 @@
 //! A tour as an array: the order of its cities and the place of each.
-ghost use Rattle.std.specs.Prelude.{◌≡◌, ◌≤◌, ◌<◌, ◌+◌, ◌-◌, ◌/◌, ◌^◌, ℕ, List, length};
+ghost use Rattle.std.specs.Prelude.{◌≡◌, ◌≤◌, ◌<◌, ◌+◌, ◌-◌, ◌*◌, ◌/◌, ◌^◌, ℕ, List, length};
 ghost use Rattle.tk_distance.specs.Cities.{IsCity};
 ghost use Rattle.tk_tour.specs.Tour.{IsSizedTour};
 ghost use Rattle.tk_tour.specs.Reversal.{IsInverse, reversed_places};
@@ -57,6 +57,7 @@ impl Placed for ArrayTour {
 impl TourStore for ArrayTour {
     ghost use Rattle.tk_tour.specs.ArrayTours.{order_of, swaps_of, flips_of, FlipsAlone, FlipsAlone-refl};
     ghost use Rattle.tk_tour.specs.ArrayTours.{FlipsAlone-trans};
+    ghost use Rattle.tk_tour.specs.Moves.{BeginsInside, CanFlip, IsShorterSide, ReplacesSteps, TwoOptMove};
 
     ghost cities = { order_of };
 
@@ -95,7 +96,24 @@ impl TourStore for ArrayTour {
         self.flips
     }
 
-    fn flip(&mut self, a: u32, b: u32, c: u32, d: u32) -> Flip {
+    // the clauses of the trait, and which of two equally long sides it reverses
+    fn flip(&mut self, a: u32, b: u32, c: u32, d: u32) -> Flip
+        requires { CanFlip (order_of self.old) a b c d }
+        ensures made { TwoOptMove (order_of self.old) (order_of self.new) a b c d }
+        ensures steps { ReplacesSteps (order_of self.old) (order_of self.new) a b c d }
+        ensures places { order_of self.new ≡ reversed_places (result.first - 1) result.count (order_of self.old) }
+        ensures undone { reversed_places (result.first - 1) result.count (order_of self.new) ≡ order_of self.old }
+        ensures first { IsCity (length (order_of self.old)) result.first }
+        ensures side { IsShorterSide (order_of self.old) result.count a b c d }
+        ensures shorter { 2 * result.count ≤ length (order_of self.old) }
+        ensures inner { 2 * result.count ≡ length (order_of self.old)
+            → BeginsInside (order_of self.old) (result.first - 1) a b c }
+        ensures swaps { swaps_of self.new ≡ saturated (swaps_of self.old + result.count / 2) }
+        ensures rises { swaps_of self.old ≤ swaps_of self.new }
+        ensures flips { flips_of self.new ≡ saturated (flips_of self.old + 1) }
+        ensures size { length (order_of self.new) ≡ length (order_of self.old) }
+        ensures kept { FlipsAlone self.old self.new }
+    {
         let (first, count) = shorter_side(self, a, b, c, d);
         self.reverse(first as usize, count as usize);
         self.swaps = self.swaps.saturating_add(count as u64 / 2);

@@ -8,7 +8,7 @@ use Rattle.tk_segments.proofs.tour.SegmentTourTourStore.flip.Goals.{After-revers
 list_flipped : (c : After-reverse) →
     IsFlipped (list_of c.args.self.now.seen) (list_of c.reverse.new.self.seen) c.shorter_side-first.result.0
     c.shorter_side-first.result.1 c.args.a c.args.b c.args.c c.args.d
-list_flipped c = flipped _ _ _ _ _ _ _ _ c.args.self.now.seen.tour c.requires c.shorter_side-first.ensures
+list_flipped c = flipped _ _ _ _ _ _ _ _ c.args.self.now.seen.tour c.requires c.shorter_side-first.ensures.side
     c.reverse.ensures.order
 
 pub returns-clause-steps : goal.returns-clause-steps
