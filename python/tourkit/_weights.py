@@ -11,11 +11,20 @@ from ._limits import DISTANCE_LIMIT, TABLE_LIMIT
 
 def rows_in(matrix: Any) -> Iterator[List[int]]:
     """The rows of a matrix, one after another."""
-    if isinstance(matrix, memoryview) and matrix.shape and len(matrix.shape) == 2:
-        numbers, width = matrix.cast("B").cast(matrix.format), matrix.shape[1]
-        matrix = (numbers[start : start + width] for start in range(0, len(numbers), width))
+    if isinstance(matrix, memoryview) and matrix.ndim == 2:
+        matrix = rows_of_view(matrix)
     for row in matrix:
         yield row.tolist() if hasattr(row, "tolist") else list(row)
+
+
+def rows_of_view(matrix: memoryview) -> Iterator[memoryview]:
+    """The rows of a memoryview with two dimensions, which may be in any order in memory."""
+    if matrix.nbytes == 0:
+        return
+    flat = matrix if matrix.c_contiguous else memoryview(matrix.tobytes())
+    numbers, width = flat.cast("B").cast(matrix.format), matrix.nbytes // matrix.itemsize // len(matrix)
+    for start in range(0, len(numbers), width):
+        yield numbers[start : start + width]
 
 
 def read_matrix(matrix: Any) -> Tuple[int, array[int]]:

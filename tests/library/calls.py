@@ -168,6 +168,50 @@ def try_arguments_out_of_their_limits():
     error(TypeError, tourkit.Problem.from_matrix, [[0, 1.5], [1.5, 0]])
 
 
+def try_matrices_in_any_order():
+    """A memoryview with two dimensions is a matrix, in whatever order its numbers are in memory."""
+    wide = memoryview(array.array("q", [0, 3, 4, 9, 9, 9, 3, 0, 5, 9, 9, 9, 4, 5, 0])).cast("B").cast("q", [5, 3])
+    views = [tourkit.distances("tri.tsp"), wide[::2], wide[::-2][::-1], view_by_columns(array.array("q", [0, 3, 4, 3, 0, 5, 4, 5, 0]), 3)]
+    if importlib.util.find_spec("numpy"):
+        import numpy
+
+        matrix = numpy.asarray(tourkit.distances("tri.tsp"))
+        views += map(memoryview, [numpy.asfortranarray(matrix), numpy.repeat(matrix, 2, axis=1)[:, ::2], matrix[::-1, ::-1][::-1, ::-1]])
+    for view in views:
+        problem = tourkit.Problem.from_matrix(view)
+        assert tourkit.distances(problem).tolist() == [[0, 3, 4], [3, 0, 5], [4, 5, 0]], view.strides
+    for empty in (memoryview(b""), wide[:0]):
+        error(ValueError, tourkit.Problem.from_matrix, empty)
+    error(ValueError, tourkit.Problem.from_matrix, wide)
+    one_way = view_by_columns(array.array("q", [0, 1, 2, 0]), 2)
+    assert error(ValueError, tourkit.Problem.from_matrix, one_way) == "from city 1 to city 2 it is 2, and 1 on the way back"
+
+
+class View(ctypes.Structure):
+    """`Py_buffer` of Python's header: numbers in memory."""
+
+    _fields_ = [("buf", ctypes.c_void_p), ("obj", ctypes.c_void_p), ("len", ctypes.c_ssize_t), ("itemsize", ctypes.c_ssize_t),
+                ("readonly", ctypes.c_int), ("ndim", ctypes.c_int), ("format", ctypes.c_char_p),
+                *((name, ctypes.POINTER(ctypes.c_ssize_t)) for name in ("shape", "strides", "suboffsets")), ("internal", ctypes.c_void_p)]
+
+
+def view_by_columns(numbers, n):
+    """A memoryview of a square matrix whose numbers are listed column by column, as numpy calls the order F."""
+    place, count = numbers.buffer_info()
+    size = numbers.itemsize
+    pair = ctypes.c_ssize_t * 2
+    view = View(place, None, count * size, size, 0, 2, b"q", pair(n, n), pair(size, n * size), None, None)
+    make = ctypes.pythonapi.PyMemoryView_FromBuffer
+    make.restype = ctypes.py_object
+    made = make(ctypes.byref(view))
+    KEPT.append((view, numbers))
+    return made
+
+
+# What memoryviews need that do not keep it themselves.
+KEPT = []
+
+
 def try_coordinates_are_exact():
     """Coordinates are exact up to the ninth decimal place."""
     problem = tourkit.Problem.from_points([(0.1, -0.1), (1e-9, "12.3456789019"), (-(10**9), 10**9)], "MAN_2D", name="a\nb")
@@ -284,7 +328,7 @@ def tests():
     """Returns the checks of this file, named by their docstrings."""
     checks = [try_header, try_problems_of_all_kinds, try_tours_of_all_kinds, try_cities_that_are_none,
               try_routes_of_all_kinds, try_depot_is_no_customer, try_refusals, try_arguments_out_of_their_limits,
-              try_coordinates_are_exact, try_rooms_of_all_sizes, try_search_in_pieces, try_interrupt,
+              try_matrices_in_any_order, try_coordinates_are_exact, try_rooms_of_all_sizes, try_search_in_pieces, try_interrupt,
               try_calls_in_threads, try_too_little_memory]
     if importlib.util.find_spec("numpy"):
         checks.append(try_arrays_of_numpy)
