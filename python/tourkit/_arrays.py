@@ -6,7 +6,7 @@ import math
 import struct
 from typing import Callable, List, Union
 
-from ._library import NO_ROOM, Answer, slice_of
+from ._library import NO_ROOM, Answer, output_slice
 from ._limits import CANDIDATE_LIMIT, within
 from ._problem import Problem, problem_of
 from ._room import room_for
@@ -43,7 +43,7 @@ def distances(problem: Union[Problem, File, Bytes]) -> memoryview:
 def filled(letter: str, count: int, fill: Callable[..., Answer]) -> memoryview:
     """The numbers that a call writes. If there are not so many of them, the call is made again."""
     numbers = memoryview(room_for(count * struct.calcsize(letter))).cast("B").cast(letter)
-    answer = fill(*slice_of(numbers))
+    answer = fill(*output_slice(numbers))
     return filled(letter, answer.needed, fill) if answer.status == NO_ROOM else numbers
 
 

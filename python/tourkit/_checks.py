@@ -5,7 +5,7 @@ from __future__ import annotations
 from typing import Any, Iterable, Sequence, Type, Union
 
 from ._claims import as_in_texts, cities_of, claimed_text, solution_text
-from ._library import FOUND, slice_of
+from ._library import FOUND, input_slice
 from ._problem import Problem, problem_of
 from ._results import Routes, Tour
 from ._text import Bytes, File, Text
@@ -33,7 +33,7 @@ def check(
 def verdict_on_list(problem: Problem, tour: Any) -> TourVerdict:
     """What is said of a list of cities."""
     cities, given = cities_of(tour)
-    answer = problem.call("check", *slice_of(cities))
+    answer = problem.call("check", *input_slice(cities.tobytes(), cities.typecode))
     if answer.status != FOUND:
         return TourVerdict(True, cities=len(cities), length=answer.length)
     fault = FAULTS[answer.kind]

@@ -5,6 +5,7 @@ from __future__ import annotations
 from array import array
 from typing import Any, Iterable, List, Optional, Sequence, Tuple, Union
 
+from ._library import frozen
 from ._results import Routes, Tour
 from ._text import Bytes, File, Text, is_text, text_of
 
@@ -17,17 +18,17 @@ LAST = 2**32 - 1
 def claimed_text(claim: Any, what: str) -> Optional[Text]:
     """The text of a claim; `None` if it is a list."""
     if isinstance(claim, (Tour, Routes)):
-        return Text(claim.text, what)
+        return Text(frozen(claim.text), what)
     return text_of(claim, what) if is_text(claim) else None
 
 
 def has_format(given: Any, letter: str) -> bool:
-    """Whether this is a list of numbers in memory that are written as such, and may be written to."""
+    """Whether this is a list of numbers in memory that are written as such."""
     try:
         view = memoryview(given)
     except TypeError:
         return False
-    return view.format == letter and view.ndim == 1 and view.c_contiguous and not view.readonly
+    return view.format == letter and view.ndim == 1
 
 
 def as_in_texts(city: int) -> int:
@@ -35,24 +36,23 @@ def as_in_texts(city: int) -> int:
     return city if 0 <= city <= LAST else 0
 
 
-def list_of(given: Iterable[int]) -> List[int]:
-    """The same numbers as a list of Python's integers."""
-    if isinstance(given, list):
-        return given
-    return given.tolist() if hasattr(given, "tolist") else list(given)
+def list_of(given: Any) -> List[int]:
+    """The same numbers as a list of Python's integers, which is a copy."""
+    return list(given.tolist() if hasattr(given, "tolist") else given)
 
 
-def cities_of(given: Iterable[int]) -> Tuple[Any, Sequence[int]]:
-    """A list of cities or customers, in memory as a call takes it, and as it was given."""
+def cities_of(given: Iterable[int]) -> Tuple[array[int], Sequence[int]]:
+    """A list of cities or customers, as texts have them and as it was given. Both are copies, which the caller cannot change."""
     if has_format(given, "I"):
-        return given, given  # type: ignore[return-value]
+        numbers = array("I", frozen(given))
+        return numbers, numbers
     listed = list_of(given)
     numbers = array("I")
     try:
         numbers.fromlist(listed)
-        return numbers, listed
     except OverflowError:
-        return array("I", map(as_in_texts, listed)), listed
+        numbers = array("I", map(as_in_texts, listed))
+    return numbers, listed
 
 
 def tour_text(cities: Iterable[int]) -> bytes:

@@ -4,6 +4,7 @@ from __future__ import annotations
 
 import ctypes
 import pathlib
+import struct
 from typing import Any, Tuple
 
 DONE, FOUND, REFUSED, NO_MEMORY, NO_ROOM = range(5)
@@ -66,12 +67,22 @@ LIBRARY = load()
 NOTHING = (ctypes.c_uint64 * 1)()
 
 
-def slice_of(items: Any) -> Tuple[Any, int]:
-    """Items in memory as a call takes them, a place and a count: `bytes`, or another buffer that can be written to."""
-    count = len(items)
-    if isinstance(items, bytes):
-        return items, count
-    return ctypes.byref(ctypes.c_char.from_buffer(items) if count else NOTHING), count
+def frozen(items: Any) -> bytes:
+    """Items in memory as bytes that nothing can change: a copy, unless they are `bytes`."""
+    return items if type(items) is bytes else bytes(memoryview(items))
+
+
+def input_slice(items: bytes, letter: str = "B") -> Tuple[bytes, int]:
+    """Items of this type that a call reads, as it takes them: a place and a count. Other threads run during a call, so they are bytes.
+    Those of `bytes` begin at a multiple of 8."""
+    data = frozen(items)
+    return data, len(data) // struct.calcsize(letter)
+
+
+def output_slice(room: Any) -> Tuple[Any, int]:
+    """Room that a call writes to, as it takes it: a place and a count. Nothing else may reach it before the call returns."""
+    count = len(room)
+    return ctypes.byref(ctypes.c_char.from_buffer(room) if count else NOTHING), count
 
 
 def call(name: str, *arguments: Any) -> Answer:

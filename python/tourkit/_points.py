@@ -6,7 +6,7 @@ import decimal
 from array import array
 from typing import Any, Iterable, Sequence, Tuple
 
-from ._library import slice_of
+from ._library import input_slice
 from ._limits import CITY_LIMIT, COORDINATE_LIMIT
 
 # Distance types by their numbers in `tourkit.h`.
@@ -56,16 +56,16 @@ class Points:
             raise ValueError(f"a problem has 2 to {CITY_LIMIT:,} cities, and not {len(pairs):,}")
         self.kind = kind
         self.size = len(pairs)
-        self.xs = array("q", [x for x, _ in pairs])
-        self.ys = array("q", [y for _, y in pairs])
+        self._xs = array("q", [x for x, _ in pairs]).tobytes()
+        self._ys = array("q", [y for _, y in pairs]).tobytes()
 
     @property
     def words(self) -> Tuple[Any, ...]:
         """What the calls over coordinates take."""
-        return (KINDS[self.kind], *slice_of(self.xs), *slice_of(self.ys))
+        return (KINDS[self.kind], *input_slice(self._xs, "q"), *input_slice(self._ys, "q"))
 
     def sections(self) -> str:
         """The lines of a problem file."""
-        places = zip(map(decimal_of, self.xs), map(decimal_of, self.ys))
+        places = zip(map(decimal_of, array("q", self._xs)), map(decimal_of, array("q", self._ys)))
         lines = "".join(f"{city} {x} {y}\n" for city, (x, y) in enumerate(places, 1))
         return f"EDGE_WEIGHT_TYPE : {self.kind}\nNODE_COORD_SECTION\n{lines}"

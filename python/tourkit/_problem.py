@@ -7,7 +7,7 @@ import math
 import re
 from typing import Any, Iterable, Optional, Sequence, Union
 
-from ._library import REFUSED, Answer, call, slice_of
+from ._library import REFUSED, Answer, call, output_slice
 from ._limits import CITY_LIMIT
 from ._points import Points
 from ._text import Bytes, File, Text, text_of
@@ -127,7 +127,7 @@ class Problem:
 
     def _read(self) -> int:
         """Has the text read, and tells how many cities it has."""
-        return math.isqrt(self.write_distances(*slice_of(b"")).needed)
+        return math.isqrt(self.write_distances(*output_slice(b"")).needed)
 
     def guess_size(self) -> int:
         """How many cities it has, at a first look that may be wrong."""

@@ -5,7 +5,7 @@ from __future__ import annotations
 import os
 from typing import Any, NamedTuple, Optional, Tuple, Union
 
-from ._library import slice_of
+from ._library import frozen, input_slice
 
 File = Union[str, "os.PathLike[str]"]
 Bytes = Union[bytes, bytearray, memoryview]
@@ -26,7 +26,7 @@ class Text(NamedTuple):
     @property
     def words(self) -> Tuple[Any, ...]:
         """The bytes as a call takes them."""
-        return slice_of(self.data)
+        return input_slice(self.data)
 
 
 def is_text(given: Any) -> bool:
@@ -43,4 +43,4 @@ def text_of(given: Any, what: str) -> Text:
             return Text(file.read(), what, os.fspath(given))
     if not is_text(given):
         raise TypeError(f"a {what} is a file (str or os.PathLike) or a text (bytes), and not {type(given).__name__}")
-    return Text(bytes(given), what)
+    return Text(frozen(given), what)

@@ -5,7 +5,7 @@ from __future__ import annotations
 from array import array
 from typing import Any, Iterable, Iterator, List, Sequence, Tuple
 
-from ._library import slice_of
+from ._library import input_slice
 from ._limits import DISTANCE_LIMIT, TABLE_LIMIT
 
 
@@ -53,22 +53,24 @@ class Weights:
     def __init__(self, matrix: Iterable[Sequence[int]]) -> None:
         n, numbers = read_matrix(matrix)
         self.size = n
-        self.lower = array("I")
+        lower = array("I")
         for city in range(1, n):
             row, column = numbers[city * n : city * n + city], numbers[city : city * n : n]
             if row != column:
                 other = next(other for other in range(city) if row[other] != column[other])
                 raise ValueError(f"from city {other + 1} to city {city + 1} it is {column[other]}, and {row[other]} on the way back")
-            self.lower.extend(row)
+            lower.extend(row)
+        self._lower = lower.tobytes()
 
     @property
     def words(self) -> Tuple[Any, ...]:
         """What the calls over weights take."""
-        return (self.size, *slice_of(self.lower))
+        return (self.size, *input_slice(self._lower, "I"))
 
     def sections(self) -> str:
         """The lines of a problem file."""
+        lower = array("I", self._lower)
         starts = (city * (city - 1) // 2 for city in range(1, self.size))
-        rows = (self.lower[start : start + city] for city, start in enumerate(starts, 1))
+        rows = (lower[start : start + city] for city, start in enumerate(starts, 1))
         lines = "".join(" ".join(map(str, row)) + "\n" for row in rows)
         return f"EDGE_WEIGHT_TYPE : EXPLICIT\nEDGE_WEIGHT_FORMAT : LOWER_ROW\nEDGE_WEIGHT_SECTION\n{lines}"

@@ -4,7 +4,7 @@ from __future__ import annotations
 
 from typing import Any, List, Sequence, Tuple
 
-from ._library import REFUSED, Answer, call, slice_of
+from ._library import REFUSED, Answer, call, output_slice
 from ._refused import refused
 from ._room import first_bytes, room_for
 from ._text import Text
@@ -19,7 +19,7 @@ def write_texts(
     """Makes a call that writes a text for each of these sizes, or a message in place of one of them if it refuses one of the texts that it
     was given. If there is more to write than fits, the call is made again."""
     rooms = [room_for(size) for size in sizes]
-    answer = call(name, *words, *(word for room in rooms for word in slice_of(room)))
+    answer = call(name, *words, *(word for room in rooms for word in output_slice(room)))
     needed = [answer.needed, answer.needed_file][: len(sizes)]
     if answer.status == REFUSED:
         raise refused(answer, first_bytes(rooms[message], answer.needed), texts)

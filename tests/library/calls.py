@@ -13,7 +13,7 @@ import sys
 import threading
 
 import tourkit
-from tourkit._library import CALLS, Answer, slice_of
+from tourkit._library import CALLS, Answer, output_slice
 from tourkit._text import text_of
 from tourkit._writing import write_texts
 
@@ -226,7 +226,7 @@ def try_rooms_of_all_sizes():
     line = b"repeated city at place 3: 2\n"
     for size in (0, 1, len(line) - 1, len(line), len(line) + 1, 1 << 20):
         assert write_texts("tourkit_check", texts, words, [size])[1] == [line], size
-        picture, told = write_texts("tourkit_plot", texts[:1], [*texts[0].words, *slice_of(b""), False], [size, size])[1]
+        picture, told = write_texts("tourkit_plot", texts[:1], [*texts[0].words, *output_slice(b""), False], [size, size])[1]
         assert picture.endswith(b"</svg>\n") and not told, size
 
 
