@@ -16,6 +16,9 @@ DISTANCE_LIMIT = 4_000_000_000
 # The longest near list of a city.
 CANDIDATE_LIMIT = 100
 
+# The most bytes of a problem, a tour or a solution.
+TEXT_LIMIT = 1_073_741_824
+
 
 def within(name: str, number: SupportsIndex, least: int, most: int) -> int:
     """An argument that is an integer in these limits."""

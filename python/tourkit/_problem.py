@@ -18,6 +18,9 @@ from ._writing import LINE, write_texts
 DIMENSION = re.compile(rb"^[ \t\r]*DIMENSION[ \t\r]*:?[ \t\r]*\+?(\d{1,18})\b", re.IGNORECASE | re.MULTILINE)
 DEPOT = re.compile(rb"^[ \t\r]*DEPOT_SECTION\b[\s:]*\+?(\d{1,18})\b", re.IGNORECASE | re.MULTILINE)
 
+# How far a text is searched for the first of them, since that takes long.
+HEAD = 1 << 16
+
 
 class Problem:
     """A TSP or a CVRP. Functions of this package take one in place of a file or a text.
@@ -133,7 +136,7 @@ class Problem:
         """How many cities it has, at a first look that may be wrong."""
         if not isinstance(self._given, Text):
             return self.size
-        found = DIMENSION.search(self.text)
+        found = DIMENSION.search(self.text, 0, HEAD)
         return min(int(found[1]), CITY_LIMIT) if found else 1
 
     def call(self, task: str, *arguments: Any) -> Answer:

@@ -5,6 +5,7 @@ from __future__ import annotations
 import os
 from typing import Any, NamedTuple, Optional, Tuple, Union
 
+from ._files import read_file
 from ._library import frozen, input_slice
 
 File = Union[str, "os.PathLike[str]"]
@@ -39,8 +40,7 @@ def is_text(given: Any) -> bool:
 def text_of(given: Any, what: str) -> Text:
     """The text of a file or of bytes."""
     if isinstance(given, (str, os.PathLike)):
-        with open(given, "rb") as file:
-            return Text(file.read(), what, os.fspath(given))
+        return Text(read_file(given, what), what, os.fspath(given))
     if not is_text(given):
         raise TypeError(f"a {what} is a file (str or os.PathLike) or a text (bytes), and not {type(given).__name__}")
     return Text(frozen(given), what)

@@ -13,6 +13,7 @@ import sys
 import threading
 
 import tourkit
+from tourkit import _limits
 from tourkit._library import CALLS, Answer, output_slice
 from tourkit._text import text_of
 from tourkit._writing import write_texts
@@ -149,6 +150,14 @@ def try_refusals():
     error(IsADirectoryError, tourkit.near, ".")
 
 
+def try_limits():
+    """The limits of problems and texts are those of the sources."""
+    source = (pathlib.Path(__file__).resolve().parents[2] / "crates/tk_problem/src/limits.rt").read_text()
+    known = {name: int(number.replace("_", "")) for name, number in re.findall(r"pub const (\w+): \w+ = ([\d_]+);", source)}
+    ours = {name: number for name, number in vars(_limits).items() if name.endswith("_LIMIT")}
+    assert len(ours) == 6 and ours.items() <= known.items(), (ours, known)
+
+
 def try_arguments_out_of_their_limits():
     """An error about an argument names it."""
     for name, number in {"seed": -1, "trials": 0, "runs": 10_001, "candidates": 101, "or_segment": 4, "pieces": 0}.items():
@@ -228,6 +237,9 @@ def try_rooms_of_all_sizes():
         assert write_texts("tourkit_check", texts, words, [size])[1] == [line], size
         picture, told = write_texts("tourkit_plot", texts[:1], [*texts[0].words, *output_slice(b""), False], [size, size])[1]
         assert picture.endswith(b"</svg>\n") and not told, size
+    late = b"COMMENT : far before its size\n" * 5_000 + texts[0].data
+    for call in (tourkit.near, tourkit.distances, tourkit.matrix, tourkit.plot):
+        assert call(late) == call("square.tsp"), call
 
 
 def try_search_in_pieces():
@@ -328,7 +340,7 @@ def tests():
     """Returns the checks of this file, named by their docstrings."""
     checks = [try_header, try_problems_of_all_kinds, try_tours_of_all_kinds, try_cities_that_are_none,
               try_routes_of_all_kinds, try_depot_is_no_customer, try_refusals, try_arguments_out_of_their_limits,
-              try_matrices_in_any_order, try_coordinates_are_exact, try_rooms_of_all_sizes, try_search_in_pieces, try_interrupt,
+              try_limits, try_matrices_in_any_order, try_coordinates_are_exact, try_rooms_of_all_sizes, try_search_in_pieces, try_interrupt,
               try_calls_in_threads, try_too_little_memory]
     if importlib.util.find_spec("numpy"):
         checks.append(try_arrays_of_numpy)

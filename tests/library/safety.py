@@ -1,19 +1,21 @@
-"""What threads change while a call runs. What may end the process runs in one of its own."""
+"""What threads change while a call runs, and files without an end. What may end the process runs in one of its own."""
 
 import array
 import contextlib
 import ctypes
 import importlib.util
+import json
 import os
 import pathlib
 import re
+import resource
 import subprocess
 import sys
 import threading
 import time
 
 import tourkit
-from tourkit import _library
+from tourkit import _files, _library
 
 TESTS = pathlib.Path(__file__).resolve().parents[1]
 HEADER = TESTS.parent / "include/tourkit.h"
@@ -22,6 +24,10 @@ SIZE = 100_000
 SECONDS = 2
 NONSENSE = (0, 2**32 - 1)
 PLACES = range(500, SIZE, 1_000)
+
+MEMORY = 1 << 30  # of a process that reads files without an end
+MOST_KILOBYTES = 200_000
+MOST_SECONDS = 2
 
 
 def apart(code, **how):
@@ -136,6 +142,118 @@ def try_changes_during_checks():
         assert checks > 10, f"only {checks} checks of {kind}"
 
 
-def tests():
+# Calls that read a file, by the words of the program.
+ENDLESS = {
+    "near FILE": lambda file: tourkit.near(file),
+    "matrix FILE FULL_MATRIX": lambda file: tourkit.matrix(file),
+    "check FILE tri.tour": lambda file: tourkit.check(file, "tri.tour"),
+    "check tri.tsp FILE": lambda file: tourkit.check("tri.tsp", file),
+    "checksol bakery.vrp FILE": lambda file: tourkit.check_solution("bakery.vrp", file),
+    "plot FILE": lambda file: tourkit.plot(file),
+    "plot tri.tsp FILE": lambda file: tourkit.plot("tri.tsp", file),
+    "plot bakery.vrp FILE": lambda file: tourkit.plot("bakery.vrp", file),
+    "solve FILE --runs 1": lambda file: tourkit.solve(file, runs=1),
+    "solve tri.tsp --initial-tour FILE": lambda file: tourkit.solve("tri.tsp", initial_tour=file),
+}
+
+
+def read_endless(words, file):
+    """Makes the call for some words of the program. Prints the fault, the seconds and the kilobytes that it took, and its members."""
+    resource.setrlimit(resource.RLIMIT_AS, (MEMORY, MEMORY))
+    began = time.monotonic()
+    try:
+        ENDLESS[words](file)
+    except tourkit.Refused as fault:
+        took = time.monotonic() - began
+        most = resource.getrusage(resource.RUSAGE_SELF).ru_maxrss
+        print(json.dumps([str(fault), took, most, fault.number, fault.name, fault.line, fault.file]))
+
+
+def try_endless(program, file, writer=None):
+    """Each call refuses a file without an end as the program does, soon and in little memory."""
+    for words in ENDLESS:
+        with Writer(writer) as source:
+            told = subprocess.run([program, *words.replace("FILE", file).split()], stdin=source, stderr=subprocess.PIPE, check=False).stderr
+        with Writer(writer) as source:
+            fault, took, most, *members = json.loads(apart(f"read_endless({words!r}, {file!r})", stdin=source))
+        assert f"tourkit: {fault}\n" == told.decode(), (words, fault, told)
+        number, name = re.fullmatch(r".*:1: (\d+) (\w+)", fault).groups()
+        assert members == [int(number), name, 1, file], (words, members)
+        assert took < MOST_SECONDS and most < MOST_KILOBYTES, f"{words}: {took:.2f} s, {most:,} kB"
+
+
+class Writer:
+    """A process that writes to a pipe without an end; none for no words. Gives the pipe."""
+
+    def __init__(self, words):
+        self.process = subprocess.Popen(words, stdout=subprocess.PIPE) if words else None
+
+    def __enter__(self):
+        return self.process.stdout if self.process else subprocess.DEVNULL
+
+    def __exit__(self, *_):
+        if self.process:
+            self.process.stdout.close()
+            self.process.kill()
+            self.process.wait()
+
+
+def texts_of_cases():
+    """The short texts of tests/cases."""
+    files = [file for case in sorted(TESTS.glob("cases/*")) for file in (*case.glob("in/*"), case / "stdin") if file.is_file()]
+    return {text for text in (file.read_bytes() for file in files) if len(text) < 2_000}
+
+
+def answer_to(text, read):
+    """What a reader answers to a text."""
+    answer = read(text)
+    return answer.status, answer.text, answer.line, answer.kind
+
+
+def try_decided_starts():
+    """A fault of the start of a text that counts as decided is the fault of each longer text."""
+    ends = [b"\n", b" ", b"7", b"x\n", b"-1\n", b"\n-1\nEOF\n", b"E #1: 1\nCost 1\n", b"\nROUTE 1: 1\n", b"x" * _files.UNBROKEN]
+    decided = dict.fromkeys(("problem", "tour", "solution"), 0)
+    for text in sorted(texts_of_cases()):
+        for start in starts_of(text):
+            for what in decided:
+                read, = _files.READERS[what]
+                if _files.is_decided(start, what):
+                    decided[what] += 1
+                    answer = answer_to(start, read)
+                    for end in (text[len(start) :], *ends):
+                        assert answer_to(start + end, read) == answer, (what, start[-80:], end[:80])
+    assert min(decided.values()) > 100, decided
+
+
+def starts_of(text):
+    """The starts of a text at some places, as they are and with a word after them that is too long."""
+    for place in range(0, len(text) + 1, max(1, len(text) // 5)):
+        yield text[:place]
+        yield text[:place] + b"7x,"[place % 3 :][:1] * _files.UNBROKEN
+
+
+def try_length_of_texts(folder):
+    """No more of a file is read than one byte over the limit, and no more than to a fault if the file may have no end."""
+    file, known = folder / "long.tsp", (_files.TEXT_LIMIT, _files.STARTS)
+    try:
+        for limit, size in ((100, 99), (100, 100), (100, 101), (100, 102), (_files.PIECE + 5, _files.PIECE + 9)):
+            _files.TEXT_LIMIT, _files.STARTS = limit, (7, 50)
+            for text in (b"\n" * size, (b"COMMENT : x\n" * size)[:size]):
+                file.write_bytes(text)
+                assert _files.read_file(file, "problem") == text[: limit + 1], (limit, size)
+            file.write_bytes(b"COMMENT : x\n" + b"?\n" * size)
+            assert len(_files.read_file(file, "problem")) == 50, (limit, size)
+    finally:
+        _files.TEXT_LIMIT, _files.STARTS = known
+
+
+def tests(program, folder):
     """The checks of this file, by what they say."""
-    return [(check.__doc__, check) for check in (try_inputs_are_bytes, try_changes_during_checks)]
+    checks = [try_inputs_are_bytes, try_changes_during_checks, try_decided_starts]
+    return [
+        *((check.__doc__, check) for check in checks),
+        (try_length_of_texts.__doc__, lambda: try_length_of_texts(folder)),
+        ("zeros without an end", lambda: try_endless(program, "/dev/zero")),
+        ("lines without an end", lambda: try_endless(program, "/dev/stdin", ["yes"])),
+    ]

@@ -1,0 +1,100 @@
+"""The texts of files, which are read no further than their answers need."""
+
+from __future__ import annotations
+
+import io
+import os
+import re
+import stat
+from typing import BinaryIO, Union
+
+from ._library import REFUSED, Answer, call, input_slice, output_slice
+from ._limits import TEXT_LIMIT
+
+# How many bytes are read at once.
+PIECE = 1 << 20
+
+# The lengths at which the start of a text is tried that may have no end.
+STARTS = (1 << 20, 1 << 24, 1 << 28)
+
+# No word, number or header may have this many bytes without a blank.
+UNBROKEN = 8192
+
+# The problems that are read before a tour or a solution.
+TSP = b"TYPE : TSP\nDIMENSION : 2\nEDGE_WEIGHT_TYPE : EUC_2D\nNODE_COORD_SECTION\n1 0 0\n2 0 1\n"
+CVRP = TSP.replace(b"TSP", b"CVRP") + b"CAPACITY : 1\nDEMAND_SECTION\n1 0\n2 1\nDEPOT_SECTION\n1\n-1\n"
+
+
+def read_file(path: Union[str, "os.PathLike[str]"], what: str) -> bytes:
+    """The text of a file. It is cut off after the first byte over the limit of texts, or earlier if the bytes before have a fault that no
+    other bytes can change. So calls answer as the program does, which reads no further than to the first fault."""
+    with open(path, "rb") as file:
+        state = os.fstat(file.fileno())
+        if stat.S_ISREG(state.st_mode) and state.st_size <= TEXT_LIMIT:
+            text = file.read(state.st_size + 1)
+            if len(text) <= state.st_size:
+                return text
+            file.seek(0)
+        return read_start(file, what)
+
+
+def read_start(file: BinaryIO, what: str) -> bytes:
+    """The text of a file of which it is not known how long it is."""
+    text = io.BytesIO()
+    for length in (*STARTS, TEXT_LIMIT + 1):
+        read_up_to(length, file, text)
+        if text.tell() < length or length > TEXT_LIMIT or is_decided(text.getvalue(), what):
+            break
+    return text.getvalue()
+
+
+def read_up_to(length: int, file: BinaryIO, text: io.BytesIO) -> None:
+    """Reads on until a text has this length, or the file ends."""
+    while text.tell() < length:
+        piece = file.read(min(PIECE, length - text.tell()))
+        if not piece:
+            return
+        text.write(piece)
+
+
+def is_decided(start: bytes, what: str) -> bool:
+    """Whether these bytes have a fault that no bytes after them can change. It is said only of faults of which that is plain.
+
+    What only shows at the end of a text is on its last line, so a fault on an earlier line is decided. A fault on the last line is decided
+    if that line ends in a word that is already too long, because the fault is in this word or before it."""
+    lines = [fault_line(read(start)) for read in READERS[what]]
+    return all(lines) and (max(lines) <= start.count(b"\n") or is_unbroken(start[-UNBROKEN:]))
+
+
+def is_unbroken(end: bytes) -> bool:
+    """Whether this end of a text has the length of such a word, and no blank and no line feed."""
+    return len(end) == UNBROKEN and not re.search(rb"[ \t\r\n]", end)
+
+
+def fault_line(answer: Answer) -> int:
+    """The line of the fault of a text that was read; 0 if it has none."""
+    return int(answer.line) if answer.status == REFUSED else 0
+
+
+def read_problem(text: bytes) -> Answer:
+    """Has a problem read."""
+    return call("tourkit_distances", *input_slice(text), *output_slice(b""))
+
+
+def read_tour(text: bytes) -> Answer:
+    """Has a tour read."""
+    return call("tourkit_check", *input_slice(TSP), *input_slice(text), *output_slice(b""))
+
+
+def read_solution(text: bytes) -> Answer:
+    """Has a solution read."""
+    return call("tourkit_checksol", *input_slice(CVRP), *input_slice(text), *output_slice(b""))
+
+
+# How a text is read. The claim that `plot` draws is a tour or a solution.
+READERS = {
+    "problem": [read_problem],
+    "tour": [read_tour],
+    "solution": [read_solution],
+    "claim": [read_tour, read_solution],
+}
