@@ -64,8 +64,8 @@ clash_text : (f : TourFault) (answer : Answer) → answer.status ≡ 2 → answe
 clash_text tours.NoMemory answer two is = absurd (omega (arith, ap (λ (a : Answer). a.status) is))
 clash_text f answer two is = ap (λ (a : Answer). a.text) is
 
-module _ (misfit : ProblemIs → Option Fault) (Clash : TourFault → Type 0) (Second : ProblemIs → Answer → Type 0)
-    (first : ℕ) (some : 1 ≤ first) (problem : List ℕ) (answer : Answer) where
+module _ (misfit : ProblemIs → Option Fault) (Clash : ProblemIs → TourFault → Type 0)
+    (Second : ProblemIs → Answer → Type 0) (first : ℕ) (some : 1 ≤ first) (problem : List ℕ) (answer : Answer) where
   first_refused : IsFaulty problem_texts first problem answer → IsRightRefusal misfit Clash Second first problem answer
   first_refused h =
       let here : answer.text ≡ first = ap (λ (a : Answer). a.text) h.told in
@@ -77,8 +77,8 @@ module _ (misfit : ProblemIs → Option Fault) (Clash : TourFault → Type 0) (S
       }
 
   second_refused : answer.text ≡ first + 1
-      → IsFitAnd misfit problem (λ p. Second p answer)
-      ⊎ ((f : TourFault) × Clash f × (answer ≡ clash_answer f answer.needed)) →
+      → IsFitAnd misfit problem (λ p. Second p answer
+      ⊎ ((f : TourFault) × Clash p f × (answer ≡ clash_answer f answer.needed))) →
       IsRightRefusal misfit Clash Second first problem answer
   second_refused here h = record {
     known = inr (inr here);
@@ -103,19 +103,21 @@ module _ (misfit : ProblemIs → Option Fault) (Clash : TourFault → Type 0) (S
       Second p answer)
       → ((p : ProblemIs) (f : TextFault) → Solution p f → answer ≡ text_answer (first + 1) f answer.needed →
       Second p answer)
-      → ((f : TourFault) → Clash f → first ≡ 2) → (v : Fault) → answer ≡ fault_answer first v answer.needed →
+      → ((p : ProblemIs) (f : TourFault) → Clash p f → first ≡ 2) → (v : Fault)
+      → answer ≡ fault_answer first v answer.needed →
       IsStop misfit Clash Tour Solution problem v → IsRightRefusal misfit Clash Second first problem answer
   right_refusal Tour Solution two tour solution clash (faults.Problem f) is h =
       first_refused (faulty problem_texts first problem f answer two refl is h)
   right_refusal Tour Solution two tour solution clash (faults.Tour f) is h =
       second_refused (ap (λ (a : Answer). a.text) (told_kind (first + 1) f.line f.kind answer two is).0)
-      (inl (record { p = h.p; is_problem = h.is_problem; fits = h.fits; fact = tour h.p f h.fact is }))
+      (record { p = h.p; is_problem = h.is_problem; fits = h.fits; fact = inl (tour h.p f h.fact is) })
   right_refusal Tour Solution two tour solution clash (faults.Solution f) is h =
       second_refused (ap (λ (a : Answer). a.text) (told_kind (first + 1) f.line f.kind answer two is).0)
-      (inl (record { p = h.p; is_problem = h.is_problem; fits = h.fits; fact = solution h.p f h.fact is }))
+      (record { p = h.p; is_problem = h.is_problem; fits = h.fits; fact = inl (solution h.p f h.fact is) })
   right_refusal Tour Solution two tour solution clash (faults.Initial f) is h =
-      let here : answer.text ≡ first + 1 = omega (arith, clash_text f answer two is, clash f h) in
-      second_refused here (inr (f, h, is))
+      let here : answer.text ≡ first + 1 = omega (arith, clash_text f answer two is, clash h.p f h.fact) in
+      second_refused here
+      (record { p = h.p; is_problem = h.is_problem; fits = h.fits; fact = inr (f, h.fact, is) })
   right_refusal Tour Solution two tour solution clash (faults.Write f) is h =
       absurd (omega (arith, ap (λ (a : Answer). a.status) is))
   right_refusal Tour Solution two tour solution clash faults.NoMemory is h =
@@ -128,4 +130,4 @@ pub problem_refusal : (misfit : ProblemIs → Option Fault) (problem : List ℕ)
     IsRightRefusal misfit NeverClashes NoRefusal 1 problem answer
 problem_refusal misfit problem answer two =
     right_refusal misfit NeverClashes NoRefusal 1 (omega arith) problem answer NoFault NoFault two
-    (λ p f h is. elim h [ ]) (λ p f h is. elim h [ ]) (λ f h. elim h [ ])
+    (λ p f h is. elim h [ ]) (λ p f h is. elim h [ ]) (λ p f h. elim h [ ])

@@ -69,21 +69,19 @@ module _ {S : Type 0} (source : sources.Ghosts S) (old new : S) (params : Params
   -- it was refused
   pub initial_stop : (v : Fault) → TextSays problem_texts problem p → misfit_of params p ≡ None
       → ReadsInitial (is_some params.initial_tour_file) source old new (Err v) →
-      IsStop (misfit_of params) (IsClashOf (is_some params.initial_tour_file) problem initial)
+      IsStop (misfit_of params) (IsClashOf (is_some params.initial_tour_file) initial)
       (IsInitialFault (is_some params.initial_tour_file) initial) NoFault problem v
   initial_stop v said fits h =
       tour_stop _ _ _ _ _ p said fits _ _ _ _ e v (λ f has. (h.0, has)) h.1
 
   -- it clashes with the problem
-  pub initial_clash : (tour : Option (List ℕ)) (f : TourFault) → TextSays problem_texts problem p
+  pub initial_clash : (tour : Option (List ℕ)) (f : TourFault)
       → ReadsInitial (is_some params.initial_tour_file) source old new (Ok tour)
-      → IsInitial p tour (Some (Initial f)) → IsClashOf (is_some params.initial_tour_file) problem initial f
-  initial_clash None f said h clash = absurd cc
-  initial_clash (Some cities) f said h clash = record {
+      → IsInitial p tour (Some (Initial f)) → IsClashOf (is_some params.initial_tour_file) initial p f
+  initial_clash None f h clash = absurd cc
+  initial_clash (Some cities) f h clash = record {
     is_given = h.0;
-    q = p;
     cities = cities;
-    is_problem = said;
     is_tour = says tour_texts source old new initial cities e h.1;
     clash = clash;
   }

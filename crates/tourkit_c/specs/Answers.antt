@@ -39,17 +39,17 @@ abbrev pub NoFault : ProblemIs → TextFault → Type 0
 NoFault p f = ⊥
 
 -- no second text clashes with the problem
-abbrev pub NeverClashes : TourFault → Type 0
-NeverClashes f = ⊥
+abbrev pub NeverClashes : ProblemIs → TourFault → Type 0
+NeverClashes p f = ⊥
 
 -- an engine stopped at the fault of the problem's text, at a problem that does not fit, at the fault of a tour's text
--- or of a solution's where the problem fits, at a tour that clashes with it, or otherwise
-abbrev pub IsStop : (ProblemIs → Option Fault) → (TourFault → Type 0) → (ProblemIs → TextFault → Type 0) →
+-- or of a solution's where the problem fits, at a tour that clashes with a problem that fits, or otherwise
+abbrev pub IsStop : (ProblemIs → Option Fault) → (ProblemIs → TourFault → Type 0) → (ProblemIs → TextFault → Type 0) →
     (ProblemIs → TextFault → Type 0) → List ℕ → Fault → Type 0
 IsStop misfit Clash Tour Solution problem (faults.Problem f) = HasFault problem_texts problem f
 IsStop misfit Clash Tour Solution problem (faults.Tour f) = IsFitAnd misfit problem (λ p. Tour p f)
 IsStop misfit Clash Tour Solution problem (faults.Solution f) = IsFitAnd misfit problem (λ p. Solution p f)
-IsStop misfit Clash Tour Solution problem (faults.Initial f) = Clash f
+IsStop misfit Clash Tour Solution problem (faults.Initial f) = IsFitAnd misfit problem (λ p. Clash p f)
 IsStop misfit Clash Tour Solution problem faults.WrongType = IsMisfitOf misfit problem faults.WrongType
 IsStop misfit Clash Tour Solution problem (faults.NotForType key) = IsMisfitOf misfit problem (faults.NotForType key)
 IsStop misfit Clash Tour Solution problem faults.TooLarge = IsMisfitOf misfit problem faults.TooLarge
@@ -67,11 +67,11 @@ NoRefusal p answer = ⊥
 
 -- what a refusal tells is so: the problem's text, which is the `first`, has the fault that it tells; or the problem
 -- does not fit, for the reason that it tells; or it fits, and the second text has the fault, or clashes with it
-pub record IsRightRefusal (misfit : ProblemIs → Option Fault) (Clash : TourFault → Type 0)
+pub record IsRightRefusal (misfit : ProblemIs → Option Fault) (Clash : ProblemIs → TourFault → Type 0)
     (Second : ProblemIs → Answer → Type 0) (first : ℕ) (problem : List ℕ) (answer : Answer) : Type 0 where
   pub known : (answer.text ≡ 0) ⊎ ((answer.text ≡ first) ⊎ (answer.text ≡ first + 1))
   pub is_problem : answer.text ≡ first → IsFaulty problem_texts first problem answer
   pub is_second : answer.text ≡ first + 1 →
-      IsFitAnd misfit problem (λ p. Second p answer)
-      ⊎ ((f : TourFault) × Clash f × (answer ≡ clash_answer f answer.needed))
+      IsFitAnd misfit problem (λ p. Second p answer
+      ⊎ ((f : TourFault) × Clash p f × (answer ≡ clash_answer f answer.needed)))
   pub is_misfit : answer.text ≡ 0 → IsMisfitAnswer misfit problem answer

@@ -40,11 +40,9 @@ pub record IsSolvedOf (parameters problem initial : List ℕ) (files : Files) : 
   pub solved : IsSolvedBy p problem initial files
 
 -- the tour to begin with, which is given, has this fault as a tour of the problem's cities
-pub record IsClashOf (given : Bool) (problem initial : List ℕ) (f : TourFault) : Type 0 where
+pub record IsClashOf (given : Bool) (initial : List ℕ) (q : ProblemIs) (f : TourFault) : Type 0 where
   pub is_given : given ≡ true
-  pub q : ProblemIs
   pub cities : List ℕ
-  pub is_problem : TextSays problem_texts problem q
   pub is_tour : TextSays tour_texts initial cities
   pub clash : IsInitial q (Some cities) (Some (Initial f))
 
@@ -78,7 +76,7 @@ HoldFiles Solves out out' file file' answer =
 -- what the answer tells keeps these parameters from being searched with: the problem, or the tour to begin with
 abbrev pub IsSearchRefused : ParamsAre → List ℕ → List ℕ → Answer → Type 0
 IsSearchRefused p problem initial answer =
-    IsRightRefusal (misfit_of p) (IsClashOf (is_some p.initial_tour_file) problem initial)
+    IsRightRefusal (misfit_of p) (IsClashOf (is_some p.initial_tour_file) initial)
     (IsInitialFaulty (is_some p.initial_tour_file) initial) 2 problem answer
 
 -- the same of the parameters of a text

@@ -31,7 +31,7 @@ fn solved(
     ensures ok { IfOk result (λ r. IsSolvedBy params.now problem.now initial.now
         (record { file = r.0.items; out = r.1.items })) }
     ensures err { IfErr result (IsStop (misfit_of params.now)
-        (IsClashOf (is_some params.now.initial_tour_file) problem.now initial.now)
+        (IsClashOf (is_some params.now.initial_tour_file) initial.now)
         (IsInitialFault (is_some params.now.initial_tour_file) initial.now) NoFault problem.now) }
 {
     let mut problem = FromRead::new(problem);

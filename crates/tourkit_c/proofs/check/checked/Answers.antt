@@ -10,4 +10,4 @@ returns-in-Err-clause-err c =
     (Writes to_memory c.new-text.result c.check_engine.new.out)
     (λ p v said fits h.
     tour_stop _ _ _ _ _ p said fits _ _ _ _ (ap (λ v. Some v.now) c.new-tour.ensures.inner) v (λ f has. has) h)
-    (λ p b f said read clash. absurd cc) c.in-Err.fault c.in-Err.ensures.ends
+    (λ p b f read clash. absurd cc) c.in-Err.fault c.in-Err.ensures.ends

@@ -8,4 +8,4 @@ pub returns-in-Err-clause-err : goal.returns-in-Err-clause-err
 returns-in-Err-clause-err c =
     stop_of _ _ _ _ _ _ _ _ (ap (λ v. Some v.now) c.new-problem.ensures.inner) _
     (Writes to_memory c.new-text.result c.matrix_engine.new.out)
-    (λ p v said fits h. elim h [ ]) (λ p b f said read clash. absurd cc) c.in-Err.fault c.in-Err.ensures.ends
+    (λ p v said fits h. elim h [ ]) (λ p b f read clash. absurd cc) c.in-Err.fault c.in-Err.ensures.ends

@@ -19,5 +19,5 @@ returns-in-Err-clause-err c =
     stop_of _ _ _ _ _ _ _ _ (ap (λ v. Some v.now) c.new-problem.ensures.inner) _
     (WritesOutput to_memory to_memory c.new-out.result c.plot_engine.new.out c.new-told.result c.plot_engine.new.told)
     (claim_stop from_memory c.new-claim.result c.plot_engine.new.claim _ _
-    (ap (λ v. Some v.now) c.new-claim.ensures.inner) _) (λ p b f said read clash. absurd cc)
+    (ap (λ v. Some v.now) c.new-claim.ensures.inner) _) (λ p b f read clash. absurd cc)
     c.in-Err.fault c.in-Err.ensures.ends

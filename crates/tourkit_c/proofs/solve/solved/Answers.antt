@@ -20,5 +20,6 @@ returns-in-Err-clause-err c =
     stop_of _ _ _ _ _ _ _ _ (ap (λ v. Some v.now) c.new-problem.ensures.inner) _
     (WritesFiles to_memory to_memory c.new-file.result c.solve_engine.new.file c.new-out.result c.solve_engine.new.out)
     (initial_stop from_memory c.new-initial.result c.solve_engine.new.initial c.args.params.now _ _ initial)
-    (initial_clash from_memory c.new-initial.result c.solve_engine.new.initial c.args.params.now _ _ initial)
+    (initial_clash from_memory c.new-initial.result c.solve_engine.new.initial c.args.params.now c.args.problem.now _
+    initial)
     c.in-Err.fault c.in-Err.ensures.ends
