@@ -17,6 +17,8 @@ enum Target {
     Plain(File),
     /// A device, a pipe or a socket.
     Special,
+    /// Standard output, which is a plain file.
+    Output,
     /// A link to a file that does not exist.
     Dangling,
     /// Nothing.
@@ -35,7 +37,7 @@ pub fn find_place(rt: &HostRuntime, name: &str) -> Result<(), ExitCode> {
 /// Whether a text can be saved under a name.
 fn try_place(rt: &HostRuntime, name: &str) -> Result<(), Unsaved> {
     match target_of(rt, name)? {
-        Target::Plain(_) | Target::Special => Ok(()),
+        Target::Plain(_) | Target::Special | Target::Output => Ok(()),
         Target::Dangling => try_part(rt, end_of_links(rt, name)?.as_str()),
         Target::Nothing => try_part(rt, name),
     }
@@ -54,11 +56,19 @@ fn try_part(rt: &HostRuntime, path: &str) -> Result<(), Unsaved> {
 fn target_of(rt: &HostRuntime, name: &str) -> Result<Target, Unsaved> {
     match fs::metadata(rt, name) {
         Ok(found) if found.is_dir() => Err(Unsaved::Unopened),
+        Ok(found) if is_standard_output(rt, name, &found) => Ok(Target::Output),
         Ok(found) if found.is_file() => Ok(Target::Plain(open_old(rt, name)?)),
         Ok(_) => Ok(Target::Special),
         Err(error) if error.kind() == ErrorKind::NotFound => missing(rt, name),
         Err(error) => Err(unopened(error.kind())),
     }
+}
+
+/// Whether a name such as `/dev/stdout` leads to the plain file that is standard output. Its text comes after the lines
+/// that were printed, as in a pipe.
+fn is_standard_output(rt: &HostRuntime, name: &str, found: &Metadata) -> bool {
+    let output = id_of(fs::metadata(rt, "/dev/stdout"));
+    name.starts_with("/dev/") && output.is_some() && output == FileId::of(found)
 }
 
 /// What a name leads to whose file does not exist.
@@ -117,6 +127,7 @@ fn try_save(rt: &HostRuntime, name: &str, text: &[u8]) -> Result<(), Unsaved> {
     match target_of(rt, name)? {
         Target::Plain(file) => save_old(rt, name, file, text),
         Target::Special | Target::Dangling => write_directly(rt, name, text),
+        Target::Output => rt.stdout().write_all(text).map_err(|_| Unsaved::Unwritten),
         Target::Nothing => save_new(rt, name, text),
     }
 }
