@@ -1,13 +1,13 @@
-"""Symmetric travelling salesman problems and capacitated vehicle routing problems: reads, checks, searches and draws them.
+"""Reads, checks, solves and draws symmetric travelling salesman problems and capacitated vehicle routing problems.
 
-A problem, a tour or a solution is given as a file (`str` or `os.PathLike`), as the text of one (`bytes`), or as an object of this package.
-A tour may also be a list of cities, and routes a list of lists of customers. Cities and customers count from 1.
+A problem, a tour or a solution is a file (`str` or `os.PathLike`), the text of a file (`bytes`), or an object of this package. A tour can
+also be a list of cities, and routes a list of lists of customers. Cities and customers are numbered from 1.
 
     >>> import tourkit
     >>> print(tourkit.check("tri.tsp", [1, 2, 3]))
     tour of 3 cities, length 12
 
-What is read, computed and searched is the work of `libtourkit.so`, which lies in this package. Calls may run beside each other in threads.
+All reading, computing and searching is done by `libtourkit.so`, which is part of this package. Calls may run in parallel threads.
 """
 
 from ._arrays import distances, near

@@ -14,9 +14,9 @@ from ._text import Bytes, File
 
 
 def near(problem: Union[Problem, File, Bytes], k: int = 5) -> memoryview:
-    """The near list of each city: its k nearest others, 1 to 100, or all of them if there are fewer, the nearest first.
+    """The near list of each city: its k nearest neighbours, the nearest first, or all other cities if there are fewer. k is 1 to 100.
 
-    It is an array of 32-bit integers with a row for each city, which `numpy.asarray` takes without a copy.
+    The result is an array of 32-bit integers with a row for each city, which `numpy.asarray` takes without a copy.
 
         >>> tourkit.near("square.tsp", k=2).tolist()
         [[3, 4], [3, 4], [1, 2], [1, 2]]
@@ -30,7 +30,7 @@ def near(problem: Union[Problem, File, Bytes], k: int = 5) -> memoryview:
 def distances(problem: Union[Problem, File, Bytes]) -> memoryview:
     """The distances of all pairs of n cities: that of cities a and b is at [a - 1, b - 1].
 
-    It is an array of 64-bit integers with n rows of n numbers, which `numpy.asarray` takes without a copy.
+    The result is an array of 64-bit integers with n rows of n numbers, which `numpy.asarray` takes without a copy.
 
         >>> tourkit.distances("tri.tsp")[1, 2]
         5
@@ -41,14 +41,14 @@ def distances(problem: Union[Problem, File, Bytes]) -> memoryview:
 
 
 def filled(letter: str, count: int, fill: Callable[..., Answer]) -> memoryview:
-    """The numbers that a call writes. If there are not so many of them, the call is made again."""
+    """The numbers that a call writes. If `count` is not their number, the call is repeated with the right one."""
     numbers = memoryview(room_for(count * struct.calcsize(letter))).cast("B").cast(letter)
     answer = fill(*output_slice(numbers))
     return filled(letter, answer.needed, fill) if answer.status == NO_ROOM else numbers
 
 
 def near_shape(entries: int, k: int) -> List[int]:
-    """The rows and columns of so many entries of near lists: k columns, or one less than rows if that is fewer."""
+    """The numbers of rows and columns of near lists with this many entries: k columns, or n - 1 for n rows if that is fewer."""
     n = entries // k
     if n <= k:
         n = (1 + math.isqrt(1 + 4 * entries)) // 2
@@ -56,5 +56,5 @@ def near_shape(entries: int, k: int) -> List[int]:
 
 
 def shaped(numbers: memoryview, shape: List[int]) -> memoryview:
-    """The same numbers in rows."""
+    """The numbers as an array of this shape."""
     return numbers.cast("B").cast(numbers.format, shape)

@@ -1,4 +1,4 @@
-"""The checks of tours and of routes."""
+"""Checks of tours and of routes."""
 
 from __future__ import annotations
 
@@ -12,7 +12,7 @@ from ._text import Bytes, File, Text
 from ._verdicts import RouteVerdict, TourVerdict, V, verdict_in
 from ._writing import LINE, write_texts
 
-# Faults of a list by their numbers in `tourkit.h`.
+# The faults of a list, by their numbers in `tourkit.h`.
 FAULTS = {20: "WrongCount", 21: "OutOfRange", 22: "RepeatedCity"}
 
 
@@ -20,7 +20,7 @@ def check(
     problem: Union[Problem, File, Bytes],
     tour: Union[File, Bytes, Tour, Iterable[int]],
 ) -> TourVerdict:
-    """Says whether a list of cities is a tour of the problem, and how long the tour is. For a CVRP, it is a tour of all nodes.
+    """Checks that a list of cities is a tour of the problem, and measures the tour. For a CVRP, the tour must visit all nodes.
 
         >>> tourkit.check("square.tsp", "twice.tour")
         TourVerdict(valid=False, fault='RepeatedCity', place=3, city=2)
@@ -31,7 +31,7 @@ def check(
 
 
 def verdict_on_list(problem: Problem, tour: Any) -> TourVerdict:
-    """What is said of a list of cities."""
+    """The verdict on a list of cities."""
     cities, given = cities_of(tour)
     answer = problem.call("check", *input_slice(cities.tobytes(), cities.typecode))
     if answer.status != FOUND:
@@ -46,9 +46,9 @@ def check_solution(
     problem: Union[Problem, File, Bytes],
     solution: Union[File, Bytes, Routes, Iterable[Sequence[int]]],
 ) -> RouteVerdict:
-    """Says whether routes serve each customer of a CVRP once within the capacity, and whether they cost what the solution says.
+    """Checks that routes serve each customer of a CVRP once, within the capacity and at the stated cost.
 
-    A list of lists of customers says nothing of the cost.
+    A list of lists of customers states no cost, so only the routes are checked.
 
         >>> tourkit.check_solution("bakery.vrp", "bakery-plan.sol")
         RouteVerdict(valid=True, routes=7, cost=11071)
@@ -59,7 +59,7 @@ def check_solution(
 
 
 def verdict_on_lists(problem: Problem, routes: Any) -> RouteVerdict:
-    """What is said of lists of customers. The cost is the last that is checked, so a wrong one is the only fault."""
+    """The verdict on lists of customers. The cost is checked last, so if it is reported as wrong, there is no other fault."""
     listed = [list(route) for route in routes]
     found = verdict_on("tourkit_checksol", RouteVerdict, problem, Text(solution_text(listed), "solution"))
     if found.fault == "WrongCost":
@@ -71,6 +71,6 @@ def verdict_on_lists(problem: Problem, routes: Any) -> RouteVerdict:
 
 
 def verdict_on(name: str, kind: Type[V], problem: Problem, claim: Text) -> V:
-    """What a call says of a text."""
+    """The verdict that a function of the library returns on a text."""
     _, (line,) = write_texts(name, [problem.source, claim], (*problem.source.words, *claim.words), [LINE])
     return verdict_in(line, kind)

@@ -1,4 +1,4 @@
-"""The shared object, and how its calls are made. `tourkit.h` says what each of them takes and gives."""
+"""Loads the shared library and calls its functions, which `tourkit.h` documents."""
 
 from __future__ import annotations
 
@@ -11,7 +11,7 @@ DONE, FOUND, REFUSED, NO_MEMORY, NO_ROOM = range(5)
 
 
 class Answer(ctypes.Structure):
-    """What a call tells beside what it writes: `tourkit_answer` of the header."""
+    """The result of a call, apart from the text or array that it writes: `tourkit_answer` of the header."""
 
     _fields_ = [
         ("status", ctypes.c_uint32),
@@ -29,7 +29,7 @@ SLICE = (ctypes.c_void_p, ctypes.c_size_t)
 NUMBER = (ctypes.c_uint32,)
 FLAG = (ctypes.c_bool,)
 
-# What each call takes before its answer.
+# The parameters of each function before its answer.
 CALLS = {
     "tourkit_check": 3 * SLICE,
     "tourkit_checksol": 3 * SLICE,
@@ -48,7 +48,7 @@ CALLS = {
 
 
 def load() -> ctypes.CDLL:
-    """The shared object beside this file, with the types of what its calls take."""
+    """Loads the shared library next to this file, and sets the parameter types of its functions."""
     place = pathlib.Path(__file__).with_name("libtourkit.so")
     try:
         loaded = ctypes.CDLL(str(place))
@@ -63,30 +63,31 @@ def load() -> ctypes.CDLL:
 
 LIBRARY = load()
 
-# An address for what has no items, since none may be null.
+# An address for buffers without items, since no pointer may be null.
 NOTHING = (ctypes.c_uint64 * 1)()
 
 
 def frozen(items: Any) -> bytes:
-    """Items in memory as bytes that nothing can change: a copy, unless they are `bytes`."""
+    """Items in memory as bytes that cannot change: a copy, unless they are `bytes`."""
     return items if type(items) is bytes else bytes(memoryview(items))
 
 
 def input_slice(items: bytes, letter: str = "B") -> Tuple[bytes, int]:
-    """Items of this type that a call reads, as it takes them: a place and a count. Other threads run during a call, so they are bytes.
-    Those of `bytes` begin at a multiple of 8."""
+    """The arguments that pass items of this type to a function that reads them: a pointer and a count. Other threads run during a call, so
+    the items are `bytes`, which cannot change. The contents of `bytes` begin at a multiple of 8."""
     data = frozen(items)
     return data, len(data) // struct.calcsize(letter)
 
 
 def output_slice(room: Any) -> Tuple[Any, int]:
-    """Room that a call writes to, as it takes it: a place and a count. Nothing else may reach it before the call returns."""
+    """The arguments that pass a buffer to a function that writes to it: a pointer and a count. Nothing else must access the buffer before
+    the call returns."""
     count = len(room)
     return ctypes.byref(ctypes.c_char.from_buffer(room) if count else NOTHING), count
 
 
 def call(name: str, *arguments: Any) -> Answer:
-    """Makes a call, and gives its answer."""
+    """Calls a function of the library and returns its answer."""
     answer = Answer()
     getattr(LIBRARY, name)(*arguments, ctypes.byref(answer))
     if answer.status == NO_MEMORY:

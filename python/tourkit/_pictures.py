@@ -16,14 +16,14 @@ from ._text import Bytes, File, Text
 from ._verdicts import RouteVerdict, TourVerdict, Verdict, verdict_in
 from ._writing import LINE, write_texts
 
-# The most bytes of a picture without its cities, and of a city in it.
+# The maximum number of bytes of a picture without its cities, and of a city in it.
 FRAME = 8192
 CITY = 64
 
 
 @dataclass(frozen=True)
 class Picture:
-    """A picture: its title, and the text of an SVG file. A notebook shows it."""
+    """A picture: its title, and the text of an SVG file. Notebooks display it."""
 
     title: str
     svg: bytes = field(repr=False)
@@ -51,7 +51,7 @@ def plot(problem: Union[Problem, File, Bytes], claim: Optional[Claim] = None) ->
 
 
 def listed_text(problem: Problem, claim: Any) -> Text:
-    """The text of a list of cities, or of a list of routes, if there is no fault in them."""
+    """The text of a list of cities, or of a list of routes, which must not have a fault."""
     listed = list(claim)
     if listed and all(isinstance(route, Iterable) for route in listed):
         routes = check_solution(problem, listed)
@@ -65,5 +65,5 @@ def listed_text(problem: Problem, claim: Any) -> Text:
 
 
 def refused_claim(verdict: Verdict, file: Optional[str] = None) -> Refused:
-    """The exception for what is no tour, or no valid solution."""
+    """The exception for a list that is not a tour, or for an invalid solution."""
     return Refused(str(verdict), None, verdict.fault, None, file)

@@ -1,4 +1,4 @@
-"""Cities by their coordinates."""
+"""Cities with coordinates."""
 
 from __future__ import annotations
 
@@ -9,7 +9,7 @@ from typing import Any, Iterable, Sequence, Tuple
 from ._library import input_slice
 from ._limits import CITY_LIMIT, COORDINATE_LIMIT
 
-# Distance types by their numbers in `tourkit.h`.
+# The distance types, by their numbers in `tourkit.h`.
 KINDS = {"EUC_2D": 0, "CEIL_2D": 1, "MAN_2D": 2, "MAX_2D": 3, "ATT": 4}
 
 # Coordinates are exact in units of 10^-9.
@@ -43,7 +43,7 @@ def decimal_of(number: int) -> str:
 
 
 class Points:
-    """Cities by their coordinates, with the distances of some type."""
+    """Cities with coordinates, and a distance type."""
 
     form = "points"
 
@@ -61,7 +61,7 @@ class Points:
 
     @property
     def words(self) -> Tuple[Any, ...]:
-        """What the calls over coordinates take."""
+        """The arguments of functions on coordinates."""
         return (KINDS[self.kind], *input_slice(self._xs, "q"), *input_slice(self._ys, "q"))
 
     def sections(self) -> str:

@@ -1,4 +1,4 @@
-"""Problems: a text, or cities by their coordinates or by their distances."""
+"""Problems: a text, or cities with coordinates or distances."""
 
 from __future__ import annotations
 
@@ -14,21 +14,21 @@ from ._text import Bytes, File, Text, text_of
 from ._weights import Weights
 from ._writing import LINE, write_texts
 
-# The lines of a problem file that say how many cities there are, and which of them is the depot.
+# The lines of a problem file that state the number of cities, and the depot.
 DIMENSION = re.compile(rb"^[ \t\r]*DIMENSION[ \t\r]*:?[ \t\r]*\+?(\d{1,18})\b", re.IGNORECASE | re.MULTILINE)
 DEPOT = re.compile(rb"^[ \t\r]*DEPOT_SECTION\b[\s:]*\+?(\d{1,18})\b", re.IGNORECASE | re.MULTILINE)
 
-# How far a text is searched for the first of them, since that takes long.
+# The number of bytes in which the first of these lines is searched for, since a longer search takes long.
 HEAD = 1 << 16
 
 
 class Problem:
-    """A TSP or a CVRP. Functions of this package take one in place of a file or a text.
+    """A TSP or a CVRP. Functions of this package accept it instead of a file or a text.
 
         Problem("board.tsp")                            a file
         Problem(b"NAME : ...")                          a text
-        Problem.from_points([(0, 0), (3, 4), (0, 8)])   cities by their coordinates
-        Problem.from_matrix([[0, 5], [5, 0]])           cities by their distances
+        Problem.from_points([(0, 0), (3, 4), (0, 8)])   cities with coordinates
+        Problem.from_matrix([[0, 5], [5, 0]])           cities with distances
     """
 
     _given: Union[Text, Points, Weights]
@@ -49,10 +49,10 @@ class Problem:
         capacity: Optional[int] = None,
         depot: int = 1,
     ) -> Problem:
-        """Cities by their coordinates, with the distances of this kind: EUC_2D, CEIL_2D, MAN_2D, MAX_2D or ATT.
+        """A problem of cities with coordinates. `kind` is the distance type: EUC_2D, CEIL_2D, MAN_2D, MAX_2D or ATT.
 
-        The first point is city 1. A coordinate counts as `str` writes it, up to the ninth decimal place, as it would in a problem file.
-        With the demands of all cities, that of the depot included, and a capacity it is a CVRP.
+        The first point is city 1. A coordinate has the value that `str` prints, up to the ninth decimal place, as in a problem file.
+        With the demands of all cities, including that of the depot, and a capacity, the problem is a CVRP.
         """
         return cls._of(Points(points, kind), name, demands, capacity, depot)
 
@@ -66,9 +66,9 @@ class Problem:
         capacity: Optional[int] = None,
         depot: int = 1,
     ) -> Problem:
-        """Cities by their distances: integers from 0 to 4,000,000,000, in a square matrix that is the same on both sides of its diagonal.
+        """A problem of cities with distances: integers from 0 to 4,000,000,000, in a symmetric matrix.
 
-        With the demands of all cities, that of the depot included, and a capacity it is a CVRP.
+        With the demands of all cities, including that of the depot, and a capacity, the problem is a CVRP.
         """
         return cls._of(Weights(matrix), name, demands, capacity, depot)
 
@@ -81,7 +81,7 @@ class Problem:
         capacity: Optional[int],
         depot: int,
     ) -> Problem:
-        """A problem of these cities. The text of a CVRP is read at once, so that its faults are seen here."""
+        """A problem of these cities. The text of a CVRP is read here, so that its faults are reported at once."""
         problem = cls.__new__(cls)
         problem._given, problem._name = cities, " ".join(name.split())
         if demands is None and capacity is None:
@@ -98,7 +98,7 @@ class Problem:
 
     @functools.cached_property
     def source(self) -> Text:
-        """The text, which is written the first time that it is asked for."""
+        """The text of the problem, which is written when it is first needed."""
         if isinstance(self._given, Text):
             return self._given
         kind = "CVRP" if self._demands else "TSP"
@@ -113,43 +113,44 @@ class Problem:
 
     @property
     def file(self) -> Optional[str]:
-        """The file that it was read from, if it was."""
+        """The file that the problem was read from; `None` if it was not read from a file."""
         return self.source.file if isinstance(self._given, Text) else None
 
     @functools.cached_property
     def size(self) -> int:
-        """How many cities it has."""
+        """The number of cities."""
         return self._read() if isinstance(self._given, Text) else self._given.size
 
     @functools.cached_property
     def depot(self) -> Optional[int]:
-        """The city that is the depot of a CVRP."""
+        """The city that is the depot of a CVRP; `None` for a TSP."""
         self._read()
         found = DEPOT.search(self.text)
         return int(found[1]) if found else None
 
     def _read(self) -> int:
-        """Has the text read, and tells how many cities it has."""
+        """Lets the library read the text, and returns the number of cities."""
         return math.isqrt(self.write_distances(*output_slice(b"")).needed)
 
     def guess_size(self) -> int:
-        """How many cities it has, at a first look that may be wrong."""
+        """An estimate of the number of cities, which may be wrong."""
         if not isinstance(self._given, Text):
             return self.size
         found = DIMENSION.search(self.text, 0, HEAD)
         return min(int(found[1]), CITY_LIMIT) if found else 1
 
     def call(self, task: str, *arguments: Any) -> Answer:
-        """Makes a call over arrays, in the form that fits what was given."""
+        """Calls the function on arrays that fits the form of the problem."""
         form = "cities" if isinstance(self._given, Text) else self._given.form
         return self._accepted(call(f"tourkit_{task}_{form}", *self._given.words, *arguments))
 
     def write_distances(self, *out: Any) -> Answer:
-        """Writes the distances of all pairs of cities, if this is an array of as many numbers."""
+        """Writes the distances of all pairs of cities to an array, if the array has the right size."""
         return self._accepted(call("tourkit_distances", *self.source.words, *out))
 
     def _accepted(self, answer: Answer) -> Answer:
-        """The answer of a call over arrays. If it refused the text, it wrote no message, and a call is made that does."""
+        """The answer of a function on arrays. Such functions write no messages, so if the text was rejected, another function is called to
+        get the message."""
         if answer.status == REFUSED:
             write_texts("tourkit_near", [self.source], (*self.source.words, 1), [LINE])
             raise ValueError(f"{self!r} was refused")
@@ -162,7 +163,7 @@ class Problem:
 
 
 def problem_of(given: Union[Problem, File, Bytes]) -> Problem:
-    """A problem as it was given, or that of a file or a text, which is not read before it is used."""
+    """The given problem, or the problem of a file or a text. Its text is parsed only when it is used."""
     if isinstance(given, Problem):
         return given
     problem = Problem.__new__(Problem)

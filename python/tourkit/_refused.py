@@ -1,4 +1,4 @@
-"""The exception for what is refused."""
+"""The exception for rejected texts and problems."""
 
 from __future__ import annotations
 
@@ -8,25 +8,25 @@ from typing import Optional, Sequence
 from ._library import Answer
 from ._text import Text
 
-# Why a problem does not fit what is asked for, by its number in `tourkit.h`.
+# The reasons why a function does not apply to a problem, by their numbers in `tourkit.h`.
 MISFITS = {16: "WrongType", 17: "NotForType", 18: "TooLarge", 19: "NoPlaces"}
 
-# Faults of an initial tour by their numbers in `tourkit.h`, with their numbers in messages.
+# The faults of an initial tour, by their numbers in `tourkit.h`, with their numbers in messages.
 CLASHES = {20: (1, "WrongCount"), 21: (2, "OutOfRange"), 22: (3, "RepeatedCity")}
 
 
 class Refused(ValueError):
-    """A text has a fault, or a problem does not fit what is asked for. It prints as the program reports it:
+    """Reports that a text has a fault, or that a function does not apply to a problem. It prints as the program reports it:
 
         broken.tsp:10: 10 TrailingData
 
-    number   the number of the fault, as in docs/FORMATS.md; `None` if the program shows none
+    number   the number of the fault, as in docs/FORMATS.md; `None` if the program prints none
     name     its name
-    line     the line of the fault, from 1; `None` if it is on no line
-    file     the file that was refused, as it was given; `None` for a text that is in no file
+    line     the line of the fault, from 1; `None` if it is not on a line
+    file     the name of the rejected file, as it was given; `None` for a text that is not in a file
     """
 
-    __module__ = "tourkit"  # where tracebacks say that it is from
+    __module__ = "tourkit"  # the module that tracebacks name
 
     def __init__(
         self,
@@ -44,8 +44,8 @@ class Refused(ValueError):
 
 
 def refused(answer: Answer, message: bytes, texts: Sequence[Text]) -> Refused:
-    """The exception for an answer and its message, after a call that was given these texts. A problem that does not fit is the one that
-    stands among them."""
+    """The exception for an answer and its message, after a call with these texts. If the function does not apply to the problem, the
+    exception names the problem among them."""
     told = message.decode().replace("INITIAL_TOUR_FILE", "initial_tour")
     if answer.kind in MISFITS and told:
         problem = next(text for text in texts if text.what == "problem")

@@ -1,4 +1,4 @@
-"""What a search finds."""
+"""The results of a search."""
 
 from __future__ import annotations
 
@@ -8,14 +8,14 @@ from typing import List, Tuple, Union
 
 from ._problem import Problem
 
-# The lines that the program prints of a run, and of the search for routes.
+# The lines that the program prints for a run, and for a search for routes.
 RUN = re.compile(rb"run (\d+): start (\d+), best (\d+), trials (\d+), moves (\d+), tests (\d+), swaps (\d+)\n")
 ROUTES = re.compile(rb"savings (\d+), routes \d+\nimproved (\d+), moves (\d+), tests (\d+), swaps (\d+)\n")
 
 
 @dataclass(frozen=True)
 class Run:
-    """A run of a search: the length of its first tour and of its best one, and how many trials, moves, tests and swaps it made."""
+    """A run of a search: the length of its starting tour, its best length, and the numbers of trials, moves, gain tests and swaps."""
 
     run: int
     start: int
@@ -28,7 +28,7 @@ class Run:
 
 @dataclass(frozen=True)
 class Tour:
-    """The best tour of a search: its length, its cities, and the runs that were made. `text` is a tour file."""
+    """The best tour of a search: its length, its cities, and the runs of the search. `text` is a tour file."""
 
     length: int
     cities: List[int] = field(repr=False)
@@ -41,10 +41,10 @@ class Tour:
 
 @dataclass(frozen=True)
 class Routes:
-    """The routes of a search: what they cost, the customers of each, and the same as cities of the problem. `text` is a solution file.
+    """The routes of a search: their cost, the customers of each, and these customers by their city numbers. `text` is a solution file.
 
-    Customer k is the k-th city that is not the depot, so with the depot as city 1 it is city k + 1. `savings` is what the routes cost at
-    first. Then they were improved with so many moves, tests and swaps.
+    Customer k is the k-th city that is not the depot, so it is city k + 1 if the depot is city 1. `savings` is the cost of the routes of
+    the savings algorithm. `moves`, `tests` and `swaps` are the numbers of moves, gain tests and swaps that improved them.
     """
 
     cost: int
@@ -61,20 +61,20 @@ class Routes:
 
 
 def result_of(lines: bytes, text: bytes, problem: Problem) -> Union[Tour, Routes]:
-    """What a search found, by what the program prints and writes."""
+    """The result of a search, from the lines and the file of the program."""
     routes = ROUTES.search(lines)
     return routes_of(text, problem.depot or 1, *map(int, routes.groups())) if routes else tour_of(lines, text)
 
 
 def tour_of(lines: bytes, text: bytes) -> Tour:
-    """The best tour of the runs of these lines."""
+    """The best tour, with the runs that these lines report."""
     runs = tuple(Run(*map(int, numbers)) for numbers in RUN.findall(lines))
     listed = text.partition(b"\nTOUR_SECTION\n")[2].partition(b"\n-1\n")[0]
     return Tour(min(run.best for run in runs), list(map(int, listed.split())), runs, text)
 
 
 def routes_of(text: bytes, depot: int, savings: int, cost: int, moves: int, tests: int, swaps: int) -> Routes:
-    """The routes of a solution, and the numbers of their search."""
+    """The routes of a solution, with the numbers of their search."""
     listed = re.findall(rb"^Route #\d+:(.*)$", text, re.MULTILINE)
     customers = [list(map(int, route.split())) for route in listed]
     cities = [[customer + (customer >= depot) for customer in route] for route in customers]

@@ -1,4 +1,4 @@
-"""Room in memory for what a call writes."""
+"""Memory for the buffers that a call writes to."""
 
 from __future__ import annotations
 
@@ -8,15 +8,15 @@ from typing import Union
 
 Room = Union[bytearray, mmap.mmap]
 
-# From this size on, room is taken from the system, which gives a page only when it is written to.
+# From this size on, memory is mapped, so the system provides a page only when it is written to.
 LARGE = 1 << 20
 
-# From this size on, it is asked to give large pages, which takes it less time.
+# From this size on, the system is asked for huge pages, which take less time to provide.
 HUGE = 1 << 24
 
 
 def room_for(size: int) -> Room:
-    """Room for so many bytes."""
+    """A buffer of this many bytes."""
     if size < LARGE:
         return bytearray(size)
     try:
@@ -30,6 +30,6 @@ def room_for(size: int) -> Room:
 
 
 def first_bytes(room: Room, count: int) -> bytes:
-    """The first bytes of some room."""
+    """The first bytes of a buffer."""
     with memoryview(room) as view:
         return bytes(view[:count])

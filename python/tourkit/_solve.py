@@ -15,8 +15,8 @@ from ._writing import write_texts
 SEEDS = 2**32
 CONSTRUCTIONS = ("NEAREST", "SAVINGS")
 
-# The most bytes of the lines on a search and on one of its runs, and of the text of a tour or of routes. If there were more, the search
-# would be made once more.
+# The maximum number of bytes of the lines of a search, of the line of a run, and of the text of a tour or of routes. If there were more,
+# the search would be repeated.
 LINES = 4096
 RUN = 256
 TEXT = 1 << 22
@@ -36,12 +36,12 @@ def solve(
     pieces: int = 1,
     progress: Optional[Callable[[Union[Tour, Routes]], Any]] = None,
 ) -> Union[Tour, Routes]:
-    """Searches for a short tour, or for short routes of a CVRP. docs/PARAMETERS.md says what each option does to time and quality.
+    """Searches for a short tour, or for short routes of a CVRP. docs/PARAMETERS.md describes the effect of each option on time and quality.
 
-    The search is deterministic, and the one that the program makes with the same options. Nothing can stop it on its way, so a long search
-    is made in pieces, one after another: each makes all these runs and trials, begins with the best tour of the piece before, and takes the
-    seeds that come next. After each piece, `progress` is called with the best tour so far, and if it returns `False`, the search ends. An
-    interrupt (Ctrl-C) is raised between two pieces. A CVRP is always searched in one piece.
+    The search is deterministic, and the same as that of the program with the same options. It cannot be interrupted while it runs, so a
+    long search can be split into `pieces`: each makes the given runs and trials, starts from the best tour of the previous piece and uses
+    the next seeds. After each piece, `progress` is called with the best tour so far; if it returns `False`, the search ends. An interrupt
+    (Ctrl-C) is raised between two pieces. A CVRP is always solved in one piece.
 
         >>> tourkit.solve("board.tsp", runs=1, trials=500)
         Tour(length=71741)
@@ -74,19 +74,19 @@ def solve(
 
 
 def listed_tour(tour: Any) -> Text:
-    """The text of a list of cities to begin with."""
+    """The text of the initial tour, from a list of cities."""
     return Text(tour_text(tour), "tour")
 
 
 def construction_of(name: str) -> str:
-    """The name of a construction, in capitals."""
+    """The name of a construction, in capital letters."""
     if name.upper() not in CONSTRUCTIONS:
         raise ValueError(f"construction is one of {' and '.join(CONSTRUCTIONS)}, and not {name!r}")
     return name.upper()
 
 
 def search_piece(problem: Problem, keys: Dict[str, Any], start: Optional[Text], runs: int) -> Union[Tour, Routes]:
-    """Makes one search. The calls want names of files, and do not look at them."""
+    """Makes one search. The parameters must contain file names, but the library ignores them."""
     names = {"PROBLEM_FILE": "-"} if start is None else {"PROBLEM_FILE": "-", "INITIAL_TOUR_FILE": "-"}
     lines = (f"{key} = {value}\n" for key, value in {**names, **keys}.items())
     parameters = Text("".join(lines).encode(), "parameters")
@@ -95,7 +95,7 @@ def search_piece(problem: Problem, keys: Dict[str, Any], start: Optional[Text], 
 
 
 def search(parameters: Text, problem: Text, start: Text, runs: int) -> Tuple[bytes, bytes]:
-    """Makes the search that parameters ask for: the lines that the program prints, and the text of the tour or of the routes."""
+    """Makes the search that the parameters specify. Returns the lines that the program prints, and the text of the tour or the routes."""
     texts = [parameters, problem, start]
     words = [word for text in texts for word in text.words]
     _, (lines, text) = write_texts("tourkit_solve", texts, words, [LINES + RUN * runs, TEXT])

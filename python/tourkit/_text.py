@@ -1,4 +1,4 @@
-"""Texts that are given as files or as bytes."""
+"""Texts, given as files or as bytes."""
 
 from __future__ import annotations
 
@@ -13,7 +13,7 @@ Bytes = Union[bytes, bytearray, memoryview]
 
 
 class Text(NamedTuple):
-    """The bytes of a text, what it is the text of, and the file that they were read from."""
+    """The bytes of a text, its kind, and the file that it was read from."""
 
     data: bytes
     what: str
@@ -21,12 +21,12 @@ class Text(NamedTuple):
 
     @property
     def where(self) -> str:
-        """What the text is called in messages."""
+        """The name of the text in messages."""
         return f"<{self.what}>" if self.file is None else self.file
 
     @property
     def words(self) -> Tuple[Any, ...]:
-        """The bytes as a call takes them."""
+        """The arguments that pass the bytes to a function of the library."""
         return input_slice(self.data)
 
 

@@ -1,4 +1,4 @@
-"""What a check says of a tour or of routes."""
+"""Verdicts on tours and on routes."""
 
 from __future__ import annotations
 
@@ -11,9 +11,9 @@ V = TypeVar("V", bound="Verdict")
 
 @dataclass(frozen=True, repr=False)
 class Verdict:
-    """Whether what was claimed is so, and if not, its first fault. It is true if it is so, and prints as the line of the program."""
+    """The result of a check: valid, or the first fault. It is true if there is no fault, and prints as the line that the program prints."""
 
-    # The line of the program for each fault, and for none.
+    # The line that the program prints for each fault, and for no fault.
     LINES: ClassVar[Mapping[Optional[str], str]] = {}
 
     valid: bool
@@ -32,11 +32,11 @@ class Verdict:
 
 @dataclass(frozen=True, repr=False)
 class TourVerdict(Verdict):
-    """What `check` says of a list of cities: that it is a tour of so many cities and of this length, or its first fault.
+    """The verdict of `check`: the number of cities and the length of the tour, or the first fault of the list.
 
-        WrongCount      as many cities are wanted, and so many were read
-        OutOfRange      at this place stands a city that the problem does not have
-        RepeatedCity    at this place stands a city that was in the list before
+        WrongCount      the list has `read` cities instead of `wanted`
+        OutOfRange      the city at this place is not a city of the problem
+        RepeatedCity    the city at this place also occurs at an earlier place
     """
 
     LINES = {
@@ -56,13 +56,13 @@ class TourVerdict(Verdict):
 
 @dataclass(frozen=True, repr=False)
 class RouteVerdict(Verdict):
-    """What `check_solution` says of routes: how many there are, and what they cost, or their first fault.
+    """The verdict of `check_solution`: the number of routes and their cost, or their first fault.
 
-        BadCustomer     this route has a customer that the problem does not have
+        BadCustomer     this route contains a customer that is not in the problem
         ServedTwice     this customer is in the routes twice
-        OverCapacity    this route has a greater load than a vehicle can carry
-        NotServed       this customer is in no route
-        WrongCost       this cost was read, and another one was counted
+        OverCapacity    the load of this route exceeds the capacity
+        NotServed       this customer is not on any route
+        WrongCost       the solution states the cost `read`, but the cost is `counted`
     """
 
     LINES = {
@@ -84,13 +84,13 @@ class RouteVerdict(Verdict):
 
 
 def numbers_in(line: str, form: str) -> Optional[Dict[str, Any]]:
-    """The numbers of a line, by their names in its form; `None` if it has another form."""
+    """The numbers in a line, by their names in a form; `None` if the line does not match the form."""
     found = re.fullmatch(re.sub(r"\{(\w+)\}", r"(?P<\1>\\d+)", form), line)
     return {name: int(value) for name, value in found.groupdict().items()} if found else None
 
 
 def verdict_in(line: bytes, *kinds: Type[V]) -> V:
-    """The verdict that a line tells, which is of one of these kinds."""
+    """The verdict that a line reports. It is of one of these kinds."""
     told = line.decode().rstrip("\n")
     for kind in kinds:
         for fault, form in kind.LINES.items():

@@ -1,4 +1,4 @@
-"""Cities by their distances."""
+"""Cities with distances."""
 
 from __future__ import annotations
 
@@ -28,7 +28,7 @@ def rows_of_view(matrix: memoryview) -> Iterator[memoryview]:
 
 
 def read_matrix(matrix: Any) -> Tuple[int, array[int]]:
-    """How many rows a matrix has, and its numbers. Those on its diagonal are not looked at."""
+    """The number of rows of a matrix, and its numbers. Those on the diagonal are ignored."""
     size, numbers = 0, array("I")
     for size, row in enumerate(rows_in(matrix), 1):
         if size > TABLE_LIMIT or size > len(row):
@@ -46,7 +46,7 @@ def read_matrix(matrix: Any) -> Tuple[int, array[int]]:
 
 
 class Weights:
-    """Cities by their distances: the lower triangle of a matrix row by row, without its diagonal."""
+    """Cities with distances: the lower triangle of a matrix row by row, without its diagonal."""
 
     form = "weights"
 
@@ -64,7 +64,7 @@ class Weights:
 
     @property
     def words(self) -> Tuple[Any, ...]:
-        """What the calls over weights take."""
+        """The arguments of functions on weights."""
         return (self.size, *input_slice(self._lower, "I"))
 
     def sections(self) -> str:

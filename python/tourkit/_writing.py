@@ -1,4 +1,4 @@
-"""Calls that write texts."""
+"""Calls of functions that write texts."""
 
 from __future__ import annotations
 
@@ -9,15 +9,15 @@ from ._refused import refused
 from ._room import first_bytes, room_for
 from ._text import Text
 
-# Room for a line that a call tells, or for a message.
+# The size of a buffer for a line or a message.
 LINE = 256
 
 
 def write_texts(
     name: str, texts: Sequence[Text], words: Sequence[Any], sizes: Sequence[int], message: int = 0
 ) -> Tuple[Answer, List[bytes]]:
-    """Makes a call that writes a text for each of these sizes, or a message in place of one of them if it refuses one of the texts that it
-    was given. If there is more to write than fits, the call is made again."""
+    """Calls a function that writes one text for each of these sizes. If the function rejects one of `texts`, it writes a message instead of
+    text number `message`. If a text does not fit, the call is repeated."""
     rooms = [room_for(size) for size in sizes]
     answer = call(name, *words, *(word for room in rooms for word in output_slice(room)))
     needed = [answer.needed, answer.needed_file][: len(sizes)]
