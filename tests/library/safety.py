@@ -1,4 +1,4 @@
-"""What threads change while a call runs, and files without an end. What may end the process runs in one of its own."""
+"""Arguments that threads change while a call runs, and files without an end. Tests that might end the process run in one of their own."""
 
 import array
 import contextlib
@@ -25,13 +25,13 @@ SECONDS = 2
 NONSENSE = (0, 2**32 - 1)
 PLACES = range(500, SIZE, 1_000)
 
-MEMORY = 1 << 30  # of a process that reads files without an end
+MEMORY = 1 << 30  # the limit of a process that reads files without an end
 MOST_KILOBYTES = 200_000
 MOST_SECONDS = 2
 
 
 def apart(code, **how):
-    """What code of this module prints in a process of its own, which must end well."""
+    """Runs code of this module in a process of its own, which must succeed, and returns its output."""
     words = [sys.executable, "-B", "-c", f"import safety; safety.{code}"]
     environment = {**os.environ, "PYTHONPATH": os.pathsep.join(sys.path)}
     how.update(env=environment, stdout=subprocess.PIPE, stderr=subprocess.STDOUT, text=True)
@@ -41,7 +41,7 @@ def apart(code, **how):
 
 
 class Recorder:
-    """Makes the calls of the shared object, and keeps what they were given."""
+    """Calls the functions of the shared library, and records their arguments."""
 
     def __init__(self):
         self.made = []
@@ -58,7 +58,7 @@ LIBRARY = _library.LIBRARY
 
 
 def make_each_call():
-    """Makes each call, with texts and arrays that can be changed."""
+    """Calls each function, with texts and arrays that can be changed."""
     text, cities = bytearray(pathlib.Path("tri.tsp").read_bytes()), array.array("I", [1, 2, 3])
     points = tourkit.Problem.from_points(array.array("d", [place]) * 2 for place in range(3))
     weights = tourkit.Problem.from_matrix(memoryview(bytearray(9 * 4)).cast("I", [3, 3]))
@@ -75,12 +75,12 @@ def make_each_call():
 
 
 def ctypes_array(cities):
-    """The same cities in memory of ctypes."""
+    """The cities as an array of ctypes."""
     return (ctypes.c_uint32 * len(cities))(*cities)
 
 
 def try_inputs_are_bytes():
-    """What a call reads is `bytes`, which no other thread can change, at an address as the header requires it."""
+    """The inputs of a call are `bytes`, which no other thread can change, at addresses that the header allows."""
     reads = {}
     for name, parameters in re.findall(r"void (tourkit_\w+)\(([^)]*)\);", HEADER.read_text()):
         reads[name] = [place for place, word in enumerate(parameters.split(",")) if "const" in word]
@@ -97,7 +97,7 @@ def try_inputs_are_bytes():
 
 
 def check_while_changed(kind):
-    """Checks a tour again and again, while another thread writes nonsense into it and takes that back. Prints the number of checks."""
+    """Checks a tour again and again, while another thread writes nonsense into it and restores it. Prints the number of checks."""
     problem = tourkit.Problem.from_points((place, 0) for place in range(SIZE))
     tour = kind(range(1, SIZE + 1))
     wanted = tourkit.check(problem.text, tour)
@@ -129,20 +129,20 @@ def array_of(cities):
 
 
 def numpy_array_of(cities):
-    """Cities as an array of numpy."""
+    """Cities as a numpy array."""
     import numpy
 
     return numpy.array(cities, dtype=numpy.uint32)
 
 
 def try_changes_during_checks():
-    """A tour may be changed while it is checked: the verdict is on the cities at some time."""
+    """A tour may change while it is checked: the verdict is right about the cities at some time."""
     for kind in ["safety.array_of", "list"] + ["safety.numpy_array_of"] * bool(importlib.util.find_spec("numpy")):
         checks = int(apart(f"check_while_changed({kind})"))
         assert checks > 10, f"only {checks} checks of {kind}"
 
 
-# Calls that read a file, by the words of the program.
+# Calls that read a file, by the arguments of the program.
 ENDLESS = {
     "near FILE": lambda file: tourkit.near(file),
     "matrix FILE FULL_MATRIX": lambda file: tourkit.matrix(file),
@@ -158,7 +158,8 @@ ENDLESS = {
 
 
 def read_endless(words, file):
-    """Makes the call for some words of the program. Prints the fault, the seconds and the kilobytes that it took, and its members."""
+    """Makes the call for some arguments of the program. Prints the fault, the seconds and kilobytes that it took, and the members of the
+    exception."""
     resource.setrlimit(resource.RLIMIT_AS, (MEMORY, MEMORY))
     began = time.monotonic()
     try:
@@ -170,7 +171,7 @@ def read_endless(words, file):
 
 
 def try_endless(program, file, writer=None):
-    """Each call refuses a file without an end as the program does, soon and in little memory."""
+    """Each call rejects a file without an end as the program does, within the limits of time and memory."""
     for words in ENDLESS:
         with Writer(writer) as source:
             told = subprocess.run([program, *words.replace("FILE", file).split()], stdin=source, stderr=subprocess.PIPE, check=False).stderr
@@ -183,7 +184,7 @@ def try_endless(program, file, writer=None):
 
 
 class Writer:
-    """A process that writes to a pipe without an end; none for no words. Gives the pipe."""
+    """A process that writes to a pipe without an end, or no process if there are no words. Yields the pipe, or a null device."""
 
     def __init__(self, words):
         self.process = subprocess.Popen(words, stdout=subprocess.PIPE) if words else None
@@ -205,13 +206,13 @@ def texts_of_cases():
 
 
 def answer_to(text, read):
-    """What a reader answers to a text."""
+    """The answer of a reader to a text."""
     answer = read(text)
     return answer.status, answer.text, answer.line, answer.kind
 
 
 def try_decided_starts():
-    """A fault of the start of a text that counts as decided is the fault of each longer text."""
+    """If the fault of the start of a text counts as decided, each longer text has this fault."""
     ends = [b"\n", b" ", b"7", b"x\n", b"-1\n", b"\n-1\nEOF\n", b"E #1: 1\nCost 1\n", b"\nROUTE 1: 1\n", b"x" * _files.UNBROKEN]
     decided = dict.fromkeys(("problem", "tour", "solution"), 0)
     for text in sorted(texts_of_cases()):
@@ -227,14 +228,14 @@ def try_decided_starts():
 
 
 def starts_of(text):
-    """The starts of a text at some places, as they are and with a word after them that is too long."""
+    """Some starts of a text, each as it is and followed by a word that is too long."""
     for place in range(0, len(text) + 1, max(1, len(text) // 5)):
         yield text[:place]
         yield text[:place] + b"7x,"[place % 3 :][:1] * _files.UNBROKEN
 
 
 def try_length_of_texts(folder):
-    """No more of a file is read than one byte over the limit, and no more than to a fault if the file may have no end."""
+    """A file is read no further than one byte over the limit. If it might have no end, it is read no further than necessary for a fault."""
     file, known = folder / "long.tsp", (_files.TEXT_LIMIT, _files.STARTS)
     try:
         for limit, size in ((100, 99), (100, 100), (100, 101), (100, 102), (_files.PIECE + 5, _files.PIECE + 9)):
@@ -249,7 +250,7 @@ def try_length_of_texts(folder):
 
 
 def tests(program, folder):
-    """The checks of this file, by what they say."""
+    """The checks of this file, each with its description."""
     checks = [try_inputs_are_bytes, try_changes_during_checks, try_decided_starts]
     return [
         *((check.__doc__, check) for check in checks),
