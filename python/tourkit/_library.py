@@ -63,7 +63,7 @@ def load() -> ctypes.CDLL:
 
 LIBRARY = load()
 
-# An address for buffers without items, since no pointer may be null.
+# An address for buffers without items, since pointers must not be null.
 NOTHING = (ctypes.c_uint64 * 1)()
 
 

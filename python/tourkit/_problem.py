@@ -18,7 +18,7 @@ from ._writing import LINE, write_texts
 DIMENSION = re.compile(rb"^[ \t\r]*DIMENSION[ \t\r]*:?[ \t\r]*\+?(\d{1,18})\b", re.IGNORECASE | re.MULTILINE)
 DEPOT = re.compile(rb"^[ \t\r]*DEPOT_SECTION\b[\s:]*\+?(\d{1,18})\b", re.IGNORECASE | re.MULTILINE)
 
-# The number of bytes in which the first of these lines is searched for, since a longer search takes long.
+# The number of bytes that are searched for the DIMENSION line. A search of the whole text would take long.
 HEAD = 1 << 16
 
 

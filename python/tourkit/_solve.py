@@ -39,7 +39,7 @@ def solve(
     """Searches for a short tour, or for short routes of a CVRP. docs/PARAMETERS.md describes the effect of each option on time and quality.
 
     The search is deterministic, and the same as that of the program with the same options. It cannot be interrupted while it runs, so a
-    long search can be split into `pieces`: each makes the given runs and trials, starts from the best tour of the previous piece and uses
+    long search can be split into `pieces`. Each makes the given runs and trials, starts from the best tour of the previous piece and uses
     the next seeds. After each piece, `progress` is called with the best tour so far; if it returns `False`, the search ends. An interrupt
     (Ctrl-C) is raised between two pieces. A CVRP is always solved in one piece.
 
