@@ -1,4 +1,4 @@
--- The weights of all pairs, as their entries come one by one.
+-- The weights of all pairs, as their entries are read one by one.
 use Rattle.std.proofs.Common.{◌≡◌, ◌≢◌, ℕ, zero, suc, ◌+◌, ◌-◌, ◌<◌, Bool, true, false, ◌&&◌, ◌||◌, cond, eqb}
 use Rattle.std.proofs.Common.{List, [], ◌∷◌, ◌++◌, length, get_or, set, map, replicate, All, arith, sym, ap, ◌∙◌, refl}
 use Rattle.std.proofs.Common.{subst, inl, inr, ◌⊎◌, length-set, fold}
@@ -20,7 +20,7 @@ use Rattle.tk_problem.specs.WeightOrder.{place, order, is_of, weight_of, lower_o
 use Rattle.tk_problem.proofs.Triangle.{pairs, pairs-below, lower_index-below, lower_index-above, length-lower}
 use Rattle.tk_problem.proofs.Triangle.{get_or-lower, place-lower}
 
--- ---- the places of a pair
+-- ---- the cells of a pair
 
 pub two_ways : (a b c d : Bool) → (a && b || c && d) ≡ true → ((a ≡ true) × (b ≡ true)) ⊎ ((c ≡ true) × (d ≡ true))
 two_ways true true c d e = inl (refl, refl)
@@ -50,7 +50,7 @@ is_of-below i j = grind (arith, nat_tests)
 pub is_of-above : (i j : ℕ) → is_of i j (place j i) ≡ true
 is_of-above i j = grind (arith, nat_tests)
 
--- ---- one entry more
+-- ---- one more entry
 
 abbrev pub origin : Place
 origin = place 0 0
@@ -67,7 +67,7 @@ get_or-lower_of : (n k : ℕ) (es : List (Place × ℕ)) → k < pairs n → let
 get_or-lower_of n k es within = get_or-map (λ p. weight_of p.row p.column es) (order LowerRow n) k origin 0
     (omega (arith, length-lower n))
 
--- an entry of a pair writes the weight of this pair, and no other
+-- an entry of a pair sets the weight of this pair and of no other
 at_index : (n hi lo k : ℕ) (es : List (Place × ℕ)) (p : Place) (w : ℕ) → lo < hi → hi < n
     → is_of hi lo p ≡ true → k < pairs n
     → (t : Bool) → (let q = get_or (order LowerRow n) k origin in is_of q.row q.column p ≡ t)
@@ -106,7 +106,7 @@ lower_of-push n es p w row_in column_in apart =
       | inr more ↦ lower_of-set n p.column p.row es p w (omega arith) column_in (is_of-above p.column p.row)
     ]
 
--- an entry on the diagonal writes none
+-- an entry on the diagonal sets no weight
 pub lower_of-diagonal : (n : ℕ) (es : List (Place × ℕ)) (p : Place) (w : ℕ) → p.row ≡ p.column →
     lower_of n (es ++ (p, w) ∷ []) ≡ lower_of n es
 lower_of-diagonal n es p w on =
@@ -119,7 +119,7 @@ lower_of-diagonal n es p w on =
     ∙ ap (λ t. cond t w (weight_of q.row q.column es)) (is_of-diagonal q.row q.column p at.0 on)
     ∙ sym (get_or-lower_of n k es short))
 
--- no entry yet
+-- without entries, all weights are 0
 pub lower_of-none : (n : ℕ) → lower_of n [] ≡ replicate (pairs n) 0
 lower_of-none n =
     ext_get_or 0 (lower_of n []) (replicate (pairs n) 0) (length-lower_of n []
@@ -127,7 +127,7 @@ lower_of-none n =
     let short : k < pairs n = omega (arith, length-lower_of n []) in
     get_or-lower_of n k [] short ∙ sym (get_or-replicate (pairs n) k 0 0 short))
 
--- the weight of a pair stands at its index
+-- the weight of a pair is at the index of the pair
 same_weight : (i j : ℕ) (es : List (Place × ℕ)) → weight_of i j es ≡ weight_of j i es
 same_weight i j es = ap (λ (test : Place → Bool). fold (λ w e. cond (test e.0) e.1 w) 0 es)
     (fun_ext (λ p. or_comm (eqb p.row i && eqb p.column j) (eqb p.row j && eqb p.column i)))
@@ -158,7 +158,7 @@ lower_index-lt n p row_in column_in apart = elim (cases_lt p.column p.row) as (�
       omega (arith, lower_index-above p.column p.row less, pairs-below n p.column p.row less column_in)
 ]
 
--- ---- the places of a format
+-- ---- the cells of a format
 
 abbrev pub IsWithin : ℕ → Place → Type 0
 IsWithin n p = (p.row < n) × (p.column < n)

@@ -1,4 +1,4 @@
--- Lists of the same place.
+-- Lists whose points are all equal.
 use Rattle.std.proofs.Common.{◌≡◌, ℕ, zero, suc, map, replicate, refl, ap, ◌∷◌}
 
 pub map-replicate : {A B : Type 0} (f : A → B) (n : ℕ) (x : A) → map f (replicate n x) ≡ replicate n (f x)

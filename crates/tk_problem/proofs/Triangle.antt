@@ -1,4 +1,4 @@
--- The places below the diagonal, row by row, and where each stands.
+-- The cells below the diagonal, row by row, and the index of each.
 use Rattle.std.proofs.Common.{◌≡◌, ℕ, zero, suc, ◌+◌, ◌-◌, ◌*◌, ◌/◌, ◌<◌, List, [], ◌∷◌, ◌++◌, length, get_or, map, max}
 use Rattle.std.proofs.Common.{min, arith, lit<, sym, ap, subst, ◌∙◌, refl, inl, inr, length-append}
 use Rattle.std.specs.List.{range_with_len, flat_map}
@@ -12,7 +12,7 @@ use Rattle.tk_problem.specs.declared.weights.Format.TheVariants.{LowerRow}
 use Rattle.tk_problem.specs.WeightOrder.{place, order, lower_index}
 use Rattle.tk_problem.proofs.WeightLines.{order-lines}
 
--- how many places stand below the diagonal of n rows
+-- the number of cells below the diagonal of n rows
 abbrev pub pairs : ℕ → ℕ
 pairs n = n * (n - 1) / 2
 
@@ -68,7 +68,7 @@ length-triangle (suc n) = ap length (triangle-suc n) ∙ length-append (triangle
 get_or-row : (n j : ℕ) (d : Place) → j < n → get_or (row n) j d ≡ place n j
 get_or-row n j d less = get_or-map-range_with_len (λ m. place n m) 0 (n - 0) j j d (omega arith) (omega arith)
 
--- what stands at an index of one row more
+-- the cell at an index, with one more row
 in_front : (n k : ℕ) (d : Place) → k < pairs n → get_or (triangle (suc n)) k d ≡ get_or (triangle n) k d
 in_front n k d less = ap (λ ps. get_or ps k d) (triangle-suc n)
     ∙ get_or_append_left (triangle n) (row n) d k (omega (arith, length-triangle n))
@@ -80,7 +80,7 @@ in_row n j k d less at =
     ∙ get_or-append_right (triangle n) (row n) (pairs n) k d (length-triangle n) (omega arith)
     ∙ ap (λ i. get_or (row n) i d) offset ∙ get_or-row n j d less
 
--- the place of i and j stands at its index
+-- the cell of i and j is at its index
 get_or-triangle : (n i j : ℕ) (d : Place) → j < i → i < n → get_or (triangle n) (pairs i + j) d ≡ place i j
 get_or-triangle zero i j d below within = absurd (omega arith)
 get_or-triangle (suc n) i j d below within =
@@ -90,7 +90,7 @@ get_or-triangle (suc n) i j d below within =
           in_row n j (pairs i + j) d (omega arith) (ap (λ k. pairs k + j) same) ∙ ap (λ k. place k j) same
     ]
 
--- what stands at an index is the place of that index
+-- p is the cell below the diagonal of n rows that has the index k
 abbrev pub IsPlaceAt : ℕ → ℕ → Place → Type 0
 IsPlaceAt n k p = (p.column < p.row) × (p.row < n) × (pairs p.row + p.column ≡ k)
 

@@ -1,4 +1,4 @@
--- Places in whole numbers of a unit.
+-- Points in whole numbers of a unit.
 use Rattle.std.proofs.Common.{◌≡◌, ◌≢◌, false, ℤ, ◌≤◌, List, All, get_or, map, pos, ◌*ℤ◌, arith, sym, ap, ◌∙◌}
 use Rattle.std.proofs.Common.{true, ◌&&◌, int_eq, to_z, of_z, w32, w64}
 use Rattle.std.proofs.lemmas.Bool.Decides.{Decides-int_eq}
@@ -19,14 +19,14 @@ use Rattle.tk_problem.specs.Laws.Units.{place_in-near}
 pub places_in-near : (unit : Unit) (ps : List WholePoint) → All IsNearOrigin (map (place_in unit) ps)
 places_in-near unit ps = All-map IsNearOrigin (place_in unit) ps (λ k d h. place_in-near unit (get_or ps k d))
 
--- the code's product of a coordinate and the step of a unit
+-- the product of a coordinate and the unit, as the code computes it
 pub product-in : (unit : Unit) (x step : ℤ) → step ≡ pos (step_of unit) → unsigned_abs x ≤ COORDINATE_LIMIT
     → to_z w64 (of_z w64 (to_z w64 (of_z w64 (to_z w32 (of_z w32 x))) *ℤ to_z w64 (of_z w64 step))) ≡ x *ℤ pos
     (step_of unit)
 product-in One x step is near = rw is (omega (arith, ints, near))
 product-in _ x step is near = rw is (omega (arith, ints, near))
 
--- ---- points, by their coordinates
+-- ---- points and their coordinates
 
 abbrev point : ℤ → ℤ → Point
 point x y = record { x = x; y = y }
@@ -39,7 +39,7 @@ points_equal p q h =
     let parts = and_parts (int_eq p.x q.x) (int_eq p.y q.y) (sym h) in
     same_point p.x p.y q.x q.y ((Decides-int_eq p.x q.x).0 parts.0) ((Decides-int_eq p.y q.y).0 parts.1)
 
--- the code's quotient of a product and the step of a unit, in 32 bits
+-- the quotient of such a product and the unit, as the code computes it, in 32 bits
 quotient-at : (unit : Unit) (w : ℤ) → unsigned_abs w ≤ COORDINATE_LIMIT
     → to_z w32
     (of_z w32

@@ -1,4 +1,4 @@
--- How many entries a format has, and how often it has each pair.
+-- The number of entries of a format, and how often it contains each pair.
 use Rattle.std.proofs.Common.{◌≡◌, ◌≢◌, ℕ, zero, suc, ◌+◌, ◌-◌, ◌*◌, ◌/◌, ◌<◌, ◌≤◌, Bool, true, false, cond, eqb, List}
 use Rattle.std.proofs.Common.{[], ◌∷◌, ◌++◌, length, map, arith, sym, ap, ◌∙◌, refl, inl, inr, length-append}
 use Rattle.std.specs.List.{range_with_len, flat_map, count_by}
@@ -18,7 +18,7 @@ use Rattle.tk_problem.specs.WeightLines.{first_item, end_item, place_on, items}
 use Rattle.tk_problem.proofs.WeightLines.{order-lines}
 use Rattle.tk_problem.proofs.Triangle.{pairs, pairs-suc, range_more}
 
--- ---- over lines
+-- ---- sums over lines
 
 abbrev total : (ℕ → ℕ) → ℕ → ℕ
 total v zero = 0
@@ -68,20 +68,20 @@ total_two v (suc c) i j less inside one_i one_j none = elim (cases_eq c i) as (�
   | inr apart ↦ omega (arith, total_two v c i j less (omega arith) one_i one_j none, none c apart (λ e. omega arith))
 ]
 
--- what lines add up to, step by step
+-- a sum over lines, from the difference that each line makes
 total_is : (v a b : ℕ → ℕ) (c : ℕ) → a 0 ≡ b 0 → ((k : ℕ) → k < c → v k + a (suc k) + b k ≡ a k + b (suc k)) →
     total v c + a c ≡ b c
 total_is v a b zero start step = omega (arith, start)
 total_is v a b (suc c) start step =
     omega (arith, total_is v a b c start (λ k less. step k (omega arith)), step c (omega arith))
 
--- ---- how many entries
+-- ---- the number of entries
 
 twice_pairs : (n : ℕ) → pairs n + pairs n + n ≡ n * n
 twice_pairs zero = refl
 twice_pairs (suc n) = omega (arith, twice_pairs n, pairs-suc n)
 
--- an order, by the numbers of entries of its lines
+-- the length of an order, from the numbers of entries of its lines
 order_is : (f : Format) (n : ℕ) (a b : ℕ → ℕ) → a 0 ≡ b 0
     → ((k : ℕ) → k < n → end_item f n k - first_item f k + a (suc k) + b k ≡ a k + b (suc k))
     → length (order f n) + a n ≡ b n
@@ -95,7 +95,7 @@ order_is f n a b start step =
     )) in
     omega (arith, lines, all)
 
--- rows or columns of these forms
+-- formats whose lines are complete, end before the diagonal, begin after it, end on it or begin on it
 full_count : (f : Format) (n : ℕ) → ((k : ℕ) → end_item f n k - first_item f k ≡ n) → length (order f n) ≡ n * n
 full_count f n each =
     let all = order_is f n (λ c. 0) (λ c. c * n) (omega arith) (λ k less. omega (arith, each k)) in omega (arith, all)
@@ -140,7 +140,7 @@ length-order LowerDiagCol n = from_diagonal_count LowerDiagCol n (λ k. refl)
 
 -- ---- how often a pair is written
 
--- a line whose entry at t alone is one of the pair
+-- a line without an entry of the pair, and one whose only entry of the pair is at t
 count_none : (p : Place → Bool) (h : ℕ → Place) (s c : ℕ) → ((m : ℕ) → s ≤ m → m < s + c → p (h m) ≡ false) →
     count_by p (map h (range_with_len s c)) ≡ 0
 count_none p h s zero none = refl
@@ -163,7 +163,7 @@ count_one p h s (suc c) t low high one none =
           ∙ rw (none s apart) (omega (arith, count_one p h (s + 1) c t (omega arith) (omega arith) one none))
     ]
 
--- which item of line k is one of the pair: j in line i, i in line j
+-- the item of a line that belongs to the pair: j in line i, i in line j, none in other lines
 in_line_i : (i j m : ℕ) → j < i → is_of i j (place i m) ≡ eqb m j
 in_line_i i j m less = grind (arith, nat_tests)
 
@@ -186,7 +186,7 @@ in_line _ i j k m = refl
 abbrev count_in : Format → ℕ → ℕ → ℕ → ℕ → ℕ
 count_in f n i j k = count_by (is_of i j) (items f k (first_item f k) (end_item f n k))
 
--- line k, where the item of the pair would be t
+-- the item of line k that belongs to the pair is t, if the line has an entry there
 abbrev IsAt : ℕ → ℕ → ℕ → ℕ → Type 0
 IsAt i j k t = (m : ℕ) → is_of i j (place k m) ≡ eqb m t
 
@@ -210,7 +210,7 @@ count-order : (f : Format) (n i j : ℕ) → count_by (is_of i j) (order f n) �
 count-order f n i j = ap (count_by (is_of i j)) (order-lines f n)
     ∙ count-lines (is_of i j) (λ k. items f k (first_item f k) (end_item f n k)) n
 
--- the pair stands in line r alone, of the two lines r and s
+-- of the lines r and s, only r contains the pair
 once : (f : Format) (n i j r s : ℕ) → r < n → count_in f n i j r ≡ 1 → count_in f n i j s ≡ 0 →
     ((k : ℕ) → k ≢ r → k ≢ s → count_in f n i j k ≡ 0) → count_by (is_of i j) (order f n) ≡ 1
 once f n i j r s inside here not_s others =

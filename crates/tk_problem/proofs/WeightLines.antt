@@ -27,7 +27,7 @@ pub places_more : (f : Format) (n line item end : ℕ) → item < end → places
 places_more f n line item end less =
     ap (λ ps. ps ++ weight_lines f n (line + 1) (n - (line + 1))) (items_more f line item end less)
 
--- after the last place of a line, the lines after it are left
+-- after the last cell of a line, those of the lines after it are left
 pub places_last : (f : Format) (n line item end : ℕ) → end ≤ item + 1
     → (end ≤ item → weight_lines f n (line + 1) (n - (line + 1)) ≡ []) → 0 < length (places_from f n line item end)
     → weight_lines f n (line + 1) (n - (line + 1)) ≡ drop 1 (places_from f n line item end)
@@ -48,9 +48,9 @@ places_last f n line item end last done more =
     none : (from : ℕ) → end ≤ from → items f line from end ≡ []
     none from over = let left : end - from ≡ 0 = omega arith in rw left refl
 
--- ---- the order, which keeps some of all places, is the walk by lines
+-- ---- the order, which is a selection of all cells, goes through the cells line by line
 
--- numbers from s on: all are kept, none is kept, or a front and the rest
+-- cells at the numbers from s on: all are kept, none is kept, or they are split in two
 filter_all : (h : ℕ → Place) (p : Place → Bool) (s c : ℕ) → ((m : ℕ) → s ≤ m → m < s + c → p (h m) ≡ true) →
     filter p (map h (range_with_len s c)) ≡ map h (range_with_len s c)
 filter_all h p s zero kept = refl
@@ -92,7 +92,7 @@ filter_between h p a b n some within is =
     ∙ rw (start, before, filter_split h p a (b - a) (n - b), among, after)
     (append-nil (map h (range_with_len a (b - a))))
 
--- lines of all places, and those of a format
+-- the lines of all cells, and those of a format
 filter-flat_map : (p : Place → Bool) (g : ℕ → List Place) (ks : List ℕ) →
     filter p (flat_map g ks) ≡ flat_map (λ k. filter p (g k)) ks
 filter-flat_map p g [] = refl
@@ -119,7 +119,7 @@ kept_lines f p n is =
     let within = lines_within f n k (omega arith) in
     filter_between (place_on f k) p (first_item f k) (end_item f n k) n within.0 within.1 (is k))
 
--- the walk by lines is the order
+-- the order consists of the cells line by line
 pub order-lines : (f : Format) (n : ℕ) → order f n ≡ weight_lines f n 0 n
 order-lines FullMatrix n =
     same_lines (λ i. map (λ j. place i j) (range_with_len 0 n)) (λ i. map (λ j. place i j) (range_with_len 0 (n - 0))) 0

@@ -1,4 +1,4 @@
--- One weight more.
+-- One more weight is read.
 use Rattle.std.proofs.Common.{replicate, ◌≡◌, ◌≢◌, ℕ, ◌<◌, ◌≤◌, Some, List, [], ◌∷◌, ◌++◌, length, get_or, set}
 use Rattle.std.proofs.Common.{drop, All, IfSome, arith, sym, ap, subst, ◌∙◌, refl, length-drop}
 use Rattle.std.specs.List.{zip, slice_get}
@@ -21,7 +21,7 @@ zip_push (p ∷ []) [] w less = refl
 zip_push (p ∷ q ∷ ps) [] w less = refl
 zip_push (p ∷ ps) (v ∷ ws) w less = ap (λ es. (p, v) ∷ es) (zip_push ps ws w (omega arith))
 
--- the next place is within the matrix
+-- p is the next cell, and it is within the matrix
 pub record IsNext (f : Format) (n : ℕ) (ws : List ℕ) (p : Place) : Type 0 where
   pub inside : length ws < length (order f n)
   pub here : get_or (order f n) (length ws) origin ≡ p
@@ -52,7 +52,7 @@ places_push : (s : Filling) (f : Format) (n : ℕ) (ws : List ℕ) (w : ℕ) →
 places_push s f n ws w h = ap (drop 1) h.places ∙ drop-drop 1 (length ws) (order f n)
     ∙ ap (λ k. drop k (order f n)) (sym (length_push ws w))
 
--- the next place is of a pair
+-- p is the next cell, and it is not on the diagonal
 pub record IsNextPair (s : Filling) (f : Format) (n : ℕ) (ws : List ℕ) (p : Place) : Type 0 where
   pub so_far : IsSoFar s f n ws
   pub next : IsNext f n ws p

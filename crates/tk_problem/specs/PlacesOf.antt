@@ -1,4 +1,4 @@
--- The list of places that a view shows.
+-- The points of a list, as they are stored.
 use Rattle.std.specs.Prelude.{List, map}
 use Rattle.tk_problem.specs.declared.point.Point.{Point}
 use Rattle.tk_problem.specs.declared.points.Places.{Places}

@@ -1,4 +1,4 @@
--- The places that a list keeps.
+-- The points that a list stores.
 use Rattle.std.specs.Prelude.{List, All, map}
 use Rattle.tk_problem.specs.declared.point.Point.{Point}
 use Rattle.tk_problem.specs.declared.points.Stored.{Stored}

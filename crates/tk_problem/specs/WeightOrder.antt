@@ -11,14 +11,14 @@ use Rattle.tk_problem.specs.declared.weights.Format.TheVariants.{LowerDiagCol}
 abbrev pub place : ℕ → ℕ → Place
 place i j = record { row = i; column = j }
 
--- all places of n rows and columns, row by row and column by column
+-- all cells of n rows and columns, row by row and column by column
 abbrev pub by_rows : ℕ → List Place
 by_rows n = flat_map (λ i. map (λ j. place i j) (range_with_len 0 n)) (range_with_len 0 n)
 
 abbrev pub by_columns : ℕ → List Place
 by_columns n = flat_map (λ j. map (λ i. place i j) (range_with_len 0 n)) (range_with_len 0 n)
 
--- the places at which a format has entries, in the order in which these are written
+-- the cells in which a format has entries, in the order in which these are written
 abbrev pub order : Format → ℕ → List Place
 order FullMatrix n = by_rows n
 order UpperRow n = filter (λ p. nat_lt p.row p.column) (by_rows n)
@@ -30,7 +30,7 @@ order LowerCol n = filter (λ p. nat_lt p.column p.row) (by_columns n)
 order UpperDiagCol n = filter (λ p. nat_le p.row p.column) (by_columns n)
 order LowerDiagCol n = filter (λ p. nat_le p.column p.row) (by_columns n)
 
--- how many entries a format has, and how often it has each pair
+-- the number of entries of a format, and how often it contains each pair
 abbrev pub entry_count : Format → ℕ → ℕ
 entry_count FullMatrix n = n * n
 entry_count UpperRow n = n * (n - 1) / 2
@@ -43,11 +43,11 @@ abbrev pub times_written : Format → ℕ
 times_written FullMatrix = 2
 times_written _ = 1
 
--- whether a place is that of i and j, in either order
+-- whether a cell is that of i and j, in either order
 abbrev pub is_of : ℕ → ℕ → Place → Bool
 is_of i j p = (p.row == i && p.column == j) || (p.row == j && p.column == i)
 
--- the weight of i and j: the last that is written at one of their places, or 0
+-- the weight of i and j: the last one that is written in one of their cells, or 0
 abbrev pub weight_of : ℕ → ℕ → List (Place × ℕ) → ℕ
 weight_of i j entries = fold (λ w e. if is_of i j e.0 then e.1 else w) 0 entries
 
@@ -55,10 +55,10 @@ weight_of i j entries = fold (λ w e. if is_of i j e.0 then e.1 else w) 0 entrie
 abbrev pub lower_of : ℕ → List (Place × ℕ) → List ℕ
 lower_of n entries = map (λ p. weight_of p.row p.column entries) (order LowerRow n)
 
--- the entries that the first numbers of a format make
+-- the first entries of a format: its first cells, each with its weight
 abbrev pub entries : Format → ℕ → List ℕ → List (Place × ℕ)
 entries f n ws = zip (order f n) ws
 
--- where the weight of a place stands among the weights of all pairs
+-- the index of the pair of a cell among all pairs, row by row below the diagonal
 abbrev pub lower_index : Place → ℕ
 lower_index p = max p.row p.column * (max p.row p.column - 1) / 2 + min p.row p.column

@@ -1,11 +1,11 @@
--- The words of distances and of the orders of explicit weights (G. Reinelt, "TSPLIB 95").
+-- The TSPLIB names of distance types and matrix formats (G. Reinelt, "TSPLIB 95").
 use Rattle.std.specs.Prelude.{ℕ, List, [], ◌∷◌, codes}
 use Rattle.tk_problem.specs.declared.weights.PlaneKind.{PlaneKind}
 use Rattle.tk_problem.specs.declared.weights.PlaneKind.TheVariants as planes
 use Rattle.tk_problem.specs.declared.weights.Format.{Format}
 use Rattle.tk_problem.specs.declared.weights.Format.TheVariants as formats
 
--- the word of a kind of distances
+-- the TSPLIB name of the distance type
 abbrev pub plane_word : PlaneKind → List ℕ
 plane_word planes.Euc2d = codes "EUC_2D"
 plane_word planes.Ceil2d = codes "CEIL_2D"
@@ -22,7 +22,7 @@ all_planes =
     ∷ planes.Att
     ∷ []
 
--- the word of a format
+-- the TSPLIB name of the format
 abbrev pub format_word : Format → List ℕ
 format_word formats.FullMatrix = codes "FULL_MATRIX"
 format_word formats.UpperRow = codes "UPPER_ROW"

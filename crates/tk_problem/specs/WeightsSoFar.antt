@@ -1,21 +1,21 @@
--- Explicit weights as they are read.
+-- Explicit weights while they are read.
 use Rattle.std.specs.Prelude.{◌≡◌, ◌≤◌, ℕ, IfSome, List, drop, length, slice_get}
 use Rattle.tk_problem.specs.declared.place.Place.{Place}
 use Rattle.tk_problem.specs.declared.weights.Format.{Format}
 use Rattle.tk_problem.specs.WeightOrder.{order, entries, lower_of, weight_of}
 
--- the places that are still to come, and the weights of all pairs
+-- the cells of the weights that are still to be read, and the weights of all pairs so far
 pub record Filling : Type 0 where
   pub places : List Place
   pub weights : List ℕ
 
--- these numbers of a format for n cities are read
+-- the first weights of a format for n cities, which have been read
 pub record IsSoFar (s : Filling) (f : Format) (n : ℕ) (ws : List ℕ) : Type 0 where
   pub few : length ws ≤ length (order f n)
   pub places : s.places ≡ drop (length ws) (order f n)
   pub weights : s.weights ≡ lower_of n (entries f n ws)
 
--- the weight that the pair of the next place has so far
+-- the weight so far of the pair of the next cell
 abbrev pub IsWeightSoFar : Filling → Format → ℕ → List ℕ → ℕ → Type 0
 IsWeightSoFar s f n ws weight =
     IfSome (slice_get s.places 0) (λ p. weight ≡ weight_of p.row p.column (entries f n ws))

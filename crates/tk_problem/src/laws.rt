@@ -1,10 +1,10 @@
-//! Laws of problems: there is nothing to run.
+//! Laws of problems, as contracts of functions that do nothing.
 ghost use Rattle.std.specs.Prelude.{◌≡◌};
 ghost use Rattle.tk_problem.specs.declared.limits.TheConstants.{CANDIDATE_LIMIT, CAPACITY_LIMIT, CITY_LIMIT};
 ghost use Rattle.tk_problem.specs.declared.limits.TheConstants.{COORDINATE_LIMIT, DISTANCE_LIMIT, ENTRY_LIMIT};
 ghost use Rattle.tk_problem.specs.declared.limits.TheConstants.{ROUTE_LIMIT, TABLE_LIMIT, TEXT_LIMIT};
 
-/// A law: each limit is this number.
+/// A law: the limits have these values.
 pub fn limits_are_these_numbers()
     ensures city { CITY_LIMIT ≡ 100000 }
     ensures table { TABLE_LIMIT ≡ 5000 }

@@ -1,4 +1,4 @@
-//! What a problem is: places in the plane, explicit weights and their order, routing.
+//! Problems: points in the plane, explicit weights and their order, and routing data.
 #![tactic(auto)]
 
 mod laws;

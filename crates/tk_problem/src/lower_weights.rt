@@ -1,4 +1,4 @@
-//! Explicit weights as they are read.
+//! Explicit weights while they are read.
 ghost use Rattle.std.specs.Prelude.{◌≡◌, ◌≢◌, ◌≤◌, ◌<◌, ◌-◌, ◌*◌, ◌/◌, ◌^◌, ◌++◌, ◌==◌, ℕ, List, [], ◌∷◌, All, IfOk};
 ghost use Rattle.std.specs.Prelude.{IfSome, Some, length, slice_get};
 ghost use Rattle.tk_problem.specs.declared.limits.TheConstants.{DISTANCE_LIMIT};
@@ -12,8 +12,8 @@ use crate::weights::Format;
 use std::alloc::{AllocError, Global};
 use std::marker::Model;
 
-/// The weights of all pairs, row by row below the diagonal, and the places of the weights that
-/// are still to come.
+/// The weights of all pairs of cities so far, row by row below the diagonal, and the cells of the weights that are
+/// still to be read.
 #[derive(Drop)]
 pub struct LowerWeights {
     places: WeightCursor,
@@ -30,10 +30,10 @@ impl Model for LowerWeights {
 }
 
 impl LowerWeights {
-    /// No weight of `n` cities is read yet, and all are 0.
+    /// The weights of `n` cities before the first one is read: all are 0.
     ///
     /// # Errors
-    /// `AllocError` if there is no memory for n (n - 1) / 2 weights.
+    /// `AllocError` if memory runs out.
     pub fn new(alloc: Global, format: Format, n: u32) -> Result<Self, AllocError>
         requires { n < 2 ^ 32 - 1 }
         ensures { IfOk result (λ s. IsSoFar s format n []) }
@@ -44,7 +44,7 @@ impl LowerWeights {
         Ok(LowerWeights { places, weights })
     }
 
-    /// Whether no weight is to come.
+    /// Whether all weights have been read.
     #[inline(always)]
     pub fn is_done(&self) -> bool
         ensures { result ≡ (length self.now.places == 0) }
@@ -52,7 +52,7 @@ impl LowerWeights {
         self.places.is_done()
     }
 
-    /// The place of the next weight.
+    /// The cell of the next weight.
     #[inline(always)]
     pub fn place(&self) -> Place
         requires { 0 < length self.now.places }
@@ -61,7 +61,7 @@ impl LowerWeights {
         self.places.place()
     }
 
-    /// The weight that the pair of the next place has so far.
+    /// The weight so far of the pair of the next cell: 0 if none of its weights has been read.
     pub fn weight(&self) -> u32
         requires more { 0 < length self.now.places }
         requires pair { IfSome (slice_get self.now.places 0) (λ p. p.row ≢ p.column) }
@@ -70,7 +70,7 @@ impl LowerWeights {
         self.weights[self.places.place().lower_index()]
     }
 
-    /// Takes the next weight.
+    /// Stores the next weight, which is not on the diagonal. If the pair already has one, replaces it.
     #[inline(always)]
     pub fn push(&mut self, weight: u32)
         requires more { 0 < length self.old.places }
@@ -84,7 +84,7 @@ impl LowerWeights {
         self.places.advance();
     }
 
-    /// Passes the next weight, which is on the diagonal.
+    /// Skips the next weight, which is on the diagonal.
     #[inline(always)]
     pub fn skip(&mut self)
         requires more { 0 < length self.old.places }
@@ -92,11 +92,11 @@ impl LowerWeights {
         ensures { (f : Format) (n : ℕ) (ws : List ℕ) (w : ℕ) → IsSoFar self.old f n ws
             → IsSoFar self.new f n (ws ++ w ∷ []) }
     {
-        // What stands on the diagonal is not kept.
+        // Weights on the diagonal are not stored.
         self.places.advance();
     }
 
-    /// The weights of all pairs, row by row below the diagonal.
+    /// The weights of all pairs of cities, row by row below the diagonal.
     pub fn into_weights(self) -> Vec<u32>
         ensures value { result.items ≡ self.weights }
         ensures limit { All (λ w. w ≤ DISTANCE_LIMIT) result.items }

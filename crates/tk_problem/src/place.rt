@@ -1,7 +1,7 @@
-//! Places in a matrix.
+//! Cells of a matrix.
 ghost use Rattle.std.specs.Prelude.{◌≡◌, ◌≢◌, ◌↔◌, IsTrue};
 
-/// A place in a matrix, with rows and columns numbered from 0.
+/// A cell of a matrix, whose rows and columns are counted from 0.
 #[derive(Clone, Copy, Debug, PartialEq, Eq)]
 pub struct Place {
     pub row: u32,
@@ -11,7 +11,7 @@ pub struct Place {
 impl Place {
     ghost use Rattle.tk_problem.specs.WeightOrder as Order;
 
-    /// Whether it stands on the diagonal.
+    /// Whether the cell is on the diagonal.
     #[inline(always)]
     pub fn is_diagonal(self) -> bool
         ensures { IsTrue result ↔ (self.row ≡ self.column) }
@@ -19,8 +19,7 @@ impl Place {
         self.row == self.column
     }
 
-    /// Where the weight of its row and column stands among those of all pairs, row by row below
-    /// the diagonal.
+    /// The index of the pair of this row and column, in either order, among all pairs, row by row below the diagonal.
     #[inline(always)]
     pub fn lower_index(self) -> usize
         requires { self.row ≢ self.column }

@@ -1,19 +1,20 @@
-//! Places in the plane.
+//! Points in the plane.
 ghost use Rattle.std.specs.Prelude.{◌≤◌};
 ghost use Rattle.std.specs.Int.RustNames.{unsigned_abs};
 ghost use Rattle.tk_problem.specs.declared.limits.TheConstants.{COORDINATE_LIMIT};
 
-/// How many units of a coordinate make one.
+/// The number of coordinate units in 1: coordinates are counted in units of 10^-9.
 pub const SCALE: i64 = 1_000_000_000;
 
-/// A place in the plane, in units of 10^-9.
+/// A point in the plane, in units of 10^-9.
 #[derive(Clone, Copy, Debug, PartialEq, Eq)]
 pub struct Point {
     pub x: i64,
     pub y: i64,
 }
 
-/// A place whose coordinates are whole numbers of magnitude at most 10^9: of ones, or of the unit of a list.
+/// A point whose coordinates are whole numbers of a unit, of magnitude at most 10^9. The unit is stored with the list
+/// of points.
 #[derive(Clone, Copy)]
 pub struct WholePoint {
     pub x: i32,

@@ -1,4 +1,4 @@
-//! Lists of places.
+//! Lists of points.
 ghost use Rattle.std.specs.Prelude.{◌≡◌, ◌<◌, List, All, IfOk, IfSome, OnOk, OnErr, length, slice_index_or, slice_set};
 ghost use Rattle.std.specs.Prelude.{replicate, map};
 ghost use Rattle.tk_problem.specs.declared.point.Point.{Point};
@@ -11,8 +11,8 @@ use crate::unit::Unit;
 use std::alloc::{AllocError, Global};
 use std::marker::Model;
 
-/// A list of places, in half the memory where all coordinates are whole numbers of a unit. No coordinate is over 10^9
-/// in magnitude.
+/// A list of points with coordinates of magnitude at most 10^9. It takes half the memory if all points written to it
+/// are [`WholePoint`]s of one unit.
 #[derive(Drop)]
 pub struct Points {
     alloc: Global,
@@ -25,12 +25,12 @@ enum Stored {
     Fine(Vec<Point>),
 }
 
-/// The places of a list, as it keeps them.
+/// The points of a list, as they are stored.
 #[derive(Clone, Copy)]
 pub enum Places<'a> {
-    /// Places whose coordinates are all whole numbers of a unit.
+    /// Points in whole numbers of a unit.
     Whole(Unit, &'a [WholePoint]),
-    /// Places in units of 10^-9.
+    /// Points in units of 10^-9.
     Fine(&'a [Point]),
 }
 
@@ -50,10 +50,10 @@ impl Model for Points {
 impl Points {
     ghost use Rattle.tk_problem.specs.PlacesOf.{places_of};
 
-    /// `n` places, all at the origin.
+    /// A list of `n` points, all at the origin.
     ///
     /// # Errors
-    /// `AllocError` if there is no memory for them.
+    /// `AllocError` if memory runs out.
     pub fn at_origin(alloc: Global, n: usize) -> Result<Points, AllocError>
         ensures { IfOk result (λ ps. ps ≡ replicate n origin) }
     {
@@ -64,7 +64,7 @@ impl Points {
         })
     }
 
-    /// How many places there are.
+    /// The number of points.
     pub fn len(&self) -> usize
         ensures { result ≡ length self.now }
     {
@@ -74,7 +74,7 @@ impl Points {
         }
     }
 
-    /// The place at an index.
+    /// The point at an index, in units of 10^-9.
     pub fn get(&self, index: usize) -> Point
         requires { index < length self.now }
         ensures place { result ≡ slice_index_or self.now index origin }
@@ -86,11 +86,11 @@ impl Points {
         }
     }
 
-    /// Writes a place. One that is not whole in the unit of the list moves the list to a finer unit, or to units of
-    /// 10^-9.
+    /// Writes a point, given in units of 10^-9. If it is not a [`WholePoint`] of the list's unit, the list is converted
+    /// to another unit, or to units of 10^-9.
     ///
     /// # Errors
-    /// `AllocError` if the list must move and there is no memory for it. The places are unchanged then.
+    /// `AllocError` if the list must be converted and memory runs out. The points are unchanged then.
     pub fn set(&mut self, index: usize, place: Point) -> Result<(), AllocError>
         requires index { index < length self.old }
         requires near { IsNearOrigin place }
@@ -114,7 +114,7 @@ impl Points {
         Ok(())
     }
 
-    /// The places, as the list keeps them.
+    /// The points, as they are stored.
     pub fn places(&self) -> Places<'_>
         ensures places { places_of result ≡ self.now }
         ensures near { All IsNearOrigin self.now }
@@ -129,7 +129,7 @@ impl Points {
 impl Places<'_> {
     ghost use Rattle.tk_problem.specs.PlacesOf.{places_of};
 
-    /// How many places there are.
+    /// The number of points.
     #[inline]
     pub fn len(self) -> usize
         ensures { result ≡ length (places_of self.entry) }
@@ -140,7 +140,7 @@ impl Places<'_> {
         }
     }
 
-    /// The place at an index.
+    /// The point at an index, in units of 10^-9.
     #[inline]
     pub fn get(self, index: usize) -> Point
         requires { index < length (places_of self) }
@@ -153,8 +153,8 @@ impl Places<'_> {
     }
 }
 
-/// Whole places, and one that is not whole in their unit: in the unit that it needs, or in units of 10^-9 where that
-/// does not serve the others.
+/// A copy of the points with a new one, which is not a [`WholePoint`] of their unit: in the coarsest unit of the new
+/// one, or in units of 10^-9 if there is no such unit or the others are not [`WholePoint`]s of it.
 fn put(
     alloc: Global,
     unit: Unit,
@@ -179,7 +179,7 @@ fn put(
     Ok(Stored::Fine(fine))
 }
 
-/// Whole places in another unit, if they are whole in it.
+/// The points, converted to another unit; `None` if one of them is not a [`WholePoint`] of it.
 fn moved(
     alloc: Global,
     unit: Unit,
@@ -199,7 +199,7 @@ fn moved(
     Ok(Some(moved))
 }
 
-/// Whole places in units of 10^-9.
+/// The points, converted to units of 10^-9.
 fn refined(alloc: Global, unit: Unit, places: &[WholePoint]) -> Result<Vec<Point>, AllocError>
     ensures { IfOk result (λ fine. fine.items ≡ map (place_in unit) places.now) }
 {

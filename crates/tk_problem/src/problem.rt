@@ -1,4 +1,4 @@
-//! What a problem is.
+//! Problems.
 ghost use Rattle.std.specs.Prelude.{◌≤◌, length};
 ghost use Rattle.tk_problem.specs.declared.limits.TheConstants.{CITY_LIMIT};
 ghost use Rattle.tk_problem.specs.Shape.{WeightsFit, RoutingFits};
@@ -6,7 +6,7 @@ ghost use Rattle.tk_problem.specs.Shape.{WeightsFit, RoutingFits};
 use crate::routing::Routing;
 use crate::weights::Weights;
 
-/// A problem: a TSP, or a CVRP where it has a routing. Cities are numbered from 1.
+/// A TSP, or a CVRP if it has a routing, with 2 to 100,000 cities, which are numbered from 1.
 #[derive(Drop)]
 pub struct Problem {
     pub name: Vec<u8>,

@@ -1,6 +1,6 @@
-//! What a capacitated problem adds.
+//! The routing data of a CVRP.
 
-/// Demands by node, the capacity of a vehicle, and the depot's node.
+/// The capacity of a vehicle, the demand of each node, and the node of the depot. Nodes are numbered from 1.
 #[derive(Drop)]
 pub struct Routing {
     pub capacity: u32,

@@ -1,4 +1,4 @@
-//! The units in which coordinates are kept as whole numbers.
+//! The units in which coordinates are stored as whole numbers.
 ghost use Rattle.std.specs.Prelude.{◌≡◌, ◌≢◌, IfSome, IfNone, pos};
 ghost use Rattle.std.specs.Int.Signed.{quot_z};
 ghost use Rattle.tk_problem.specs.declared.point.WholePoint.{WholePoint};
@@ -8,7 +8,7 @@ ghost use Rattle.tk_problem.specs.Units.{place_in, step_of};
 use crate::limits::COORDINATE_LIMIT;
 use crate::point::{Point, WholePoint};
 
-/// A unit of coordinates: one, or the last of up to three decimals.
+/// A unit of coordinates: 1, 0.1, 0.01 or 0.001.
 #[derive(Clone, Copy, Debug, PartialEq, Eq)]
 pub enum Unit {
     One,
@@ -18,7 +18,7 @@ pub enum Unit {
 }
 
 impl Unit {
-    /// How many units of 10^-9 it has.
+    /// The unit, in units of 10^-9.
     #[inline]
     pub fn step(self) -> i64
         ensures { result ≡ pos (step_of self) }
@@ -31,7 +31,7 @@ impl Unit {
         }
     }
 
-    /// The place of whole numbers of this unit, in units of 10^-9.
+    /// A point in whole numbers of this unit, converted to units of 10^-9.
     #[inline]
     pub fn place(self, whole: WholePoint) -> Point
         ensures place { result ≡ place_in self whole }
@@ -44,8 +44,8 @@ impl Unit {
         }
     }
 
-    /// How often a coordinate has it, rounded towards zero. The divisors are constants, since a division by one is a
-    /// product.
+    /// A coordinate in units of 10^-9, converted to this unit and rounded towards zero. The divisors are constants,
+    /// since the compiler turns a division by a constant into a multiplication.
     fn units(self, coordinate: i64) -> i64
         ensures { result ≡ quot_z coordinate (pos (step_of self)) }
     {
@@ -57,7 +57,8 @@ impl Unit {
         }
     }
 
-    /// A place whose coordinates are whole numbers of this unit, of magnitude at most 10^9, as such.
+    /// A point in units of 10^-9, converted to this unit; `None` unless its coordinates are whole numbers of this unit,
+    /// of magnitude at most 10^9.
     pub fn whole(self, place: Point) -> Option<WholePoint>
         ensures some { IfSome result (λ whole. place_in self whole ≡ place) }
         ensures none { IfNone result ((whole : WholePoint) → place_in self whole ≢ place) }
@@ -78,7 +79,8 @@ impl Unit {
         }
     }
 
-    /// A unit that a place has whole coordinates in, the coarsest one first, and these. `None` costs memory alone.
+    /// The coarsest unit of which a point is a [`WholePoint`], and the point in this unit; `None` if there is no such
+    /// unit. No contract depends on `None`, which costs only memory.
     pub(crate) fn of(place: Point) -> Option<(Unit, WholePoint)>
         ensures { IfSome result (λ found. place_in found.0 found.1 ≡ place) }
     {

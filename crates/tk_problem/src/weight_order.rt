@@ -9,7 +9,7 @@ use crate::place::Place;
 use crate::weights::Format;
 use std::marker::Model;
 
-/// The first item of a row or column that has an entry.
+/// The first item of a row or column, counted from 0, in which a format has an entry.
 fn first_item(format: Format, line: u32) -> u32
     requires { line < 2 ^ 32 - 1 }
     ensures { result ≡ Lines.first_item format line }
@@ -21,7 +21,7 @@ fn first_item(format: Format, line: u32) -> u32
     }
 }
 
-/// The item after the last of a row or column that has an entry.
+/// The item after the last one of a row or column in which a format has an entry.
 fn end_item(format: Format, n: u32, line: u32) -> u32
     requires { line < n }
     ensures value { result ≡ Lines.end_item format n line }
@@ -34,7 +34,7 @@ fn end_item(format: Format, n: u32, line: u32) -> u32
     }
 }
 
-/// The first row or column from `from` on that has an entry.
+/// The first row or column from `from` on in which a format has an entry; `None` if there is none.
 fn next_line(format: Format, n: u32, from: u32) -> Option<u32>
     requires { n < 2 ^ 32 - 1 }
     ensures some { IfSome result (λ line. (line < n) × (Lines.first_item format line < Lines.end_item format n line)
@@ -50,7 +50,7 @@ fn next_line(format: Format, n: u32, from: u32) -> Option<u32>
     None
 }
 
-/// The places of the weights that are still to come.
+/// The cells of the weights that are still to be read, in their order.
 #[derive(Drop)]
 pub struct WeightCursor {
     format: Format,
@@ -70,7 +70,7 @@ impl Model for WeightCursor {
 }
 
 impl WeightCursor {
-    /// The places of all weights of `n` cities.
+    /// The cells of all weights of `n` cities.
     pub fn new(format: Format, n: u32) -> Self
         requires { n < 2 ^ 32 - 1 }
         ensures places { result ≡ Order.order format n }
@@ -81,7 +81,7 @@ impl WeightCursor {
         WeightCursor::from_line(format, n, 0)
     }
 
-    /// The places of the weights from a row or column on.
+    /// The cells of the weights from a row or column on.
     #[cold]
     fn from_line(format: Format, n: u32, from: u32) -> Self
         requires { n < 2 ^ 32 - 1 }
@@ -105,7 +105,7 @@ impl WeightCursor {
         }
     }
 
-    /// Whether no weight is to come.
+    /// Whether all weights have been read.
     #[inline(always)]
     pub fn is_done(&self) -> bool
         ensures { result ≡ (length self.now == 0) }
@@ -113,7 +113,7 @@ impl WeightCursor {
         self.item >= self.end
     }
 
-    /// The place of the next weight.
+    /// The cell of the next weight.
     #[inline(always)]
     pub fn place(&self) -> Place
         requires { 0 < length self.now }
@@ -133,7 +133,7 @@ impl WeightCursor {
         }
     }
 
-    /// Goes to the next place.
+    /// Moves on to the next cell.
     #[inline(always)]
     pub fn advance(&mut self)
         requires { 0 < length self.old }

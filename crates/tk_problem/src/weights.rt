@@ -1,10 +1,10 @@
-//! What distances are made of, and TSPLIB's words for it.
+//! The weights of a problem, and the TSPLIB names of distance types and matrix formats.
 ghost use Rattle.std.specs.Prelude.{◌≡◌};
 ghost use Rattle.tk_problem.specs.WeightWords;
 
 use crate::points::Points;
 
-/// How distances come from coordinates, by TSPLIB's words.
+/// A distance type of TSPLIB: how distances are computed from coordinates.
 #[derive(Clone, Copy, Debug, PartialEq, Eq)]
 pub enum PlaneKind {
     Euc2d,
@@ -14,7 +14,7 @@ pub enum PlaneKind {
     Att,
 }
 
-/// The kinds, in the order of the enum.
+/// The distance types, in the order of the enum.
 pub const PLANE_KINDS: [PlaneKind; 5] = [
     PlaneKind::Euc2d,
     PlaneKind::Ceil2d,
@@ -24,7 +24,7 @@ pub const PLANE_KINDS: [PlaneKind; 5] = [
 ];
 
 impl PlaneKind {
-    /// TSPLIB's word for the kind.
+    /// The TSPLIB name of the distance type.
     pub fn word(self) -> &'static str
         ensures { result.now ≡ WeightWords.plane_word self }
     {
@@ -38,7 +38,7 @@ impl PlaneKind {
     }
 }
 
-/// The order in which explicit weights are written, by TSPLIB's words.
+/// A matrix format of TSPLIB: the order in which explicit weights are written.
 #[derive(Clone, Copy, Debug, PartialEq, Eq)]
 pub enum Format {
     FullMatrix,
@@ -66,7 +66,7 @@ pub const FORMATS: [Format; 9] = [
 ];
 
 impl Format {
-    /// TSPLIB's word for the format.
+    /// The TSPLIB name of the format.
     pub fn word(self) -> &'static str
         ensures { result.now ≡ WeightWords.format_word self }
     {
@@ -84,7 +84,8 @@ impl Format {
     }
 }
 
-/// Places in the plane, or explicit weights: the lower triangle row by row without its diagonal.
+/// A distance type and the points of the cities, or explicit weights: the lower triangle, row by row, without its
+/// diagonal.
 #[derive(Drop)]
 pub enum Weights {
     Points(PlaneKind, Points),

@@ -1,4 +1,4 @@
--- Laws of places in whole numbers of a unit.
+-- Laws of points in whole numbers of a unit.
 use Rattle.std.specs.Prelude.{ℤ, ◌≤◌, pos, ◌*ℤ◌}
 use Rattle.std.proofs.Common.{arith}
 use Rattle.std.proofs.lemmas.Int.{unsigned_abs-mul}
@@ -17,6 +17,6 @@ coordinate-near Tenth x near = omega (arith, unsigned_abs-mul x (pos 100000000),
 coordinate-near Hundredth x near = omega (arith, unsigned_abs-mul x (pos 10000000), near)
 coordinate-near Thousandth x near = omega (arith, unsigned_abs-mul x (pos 1000000), near)
 
--- a place in whole numbers of a unit is near the origin
+-- a point in whole numbers of a unit is within the limits of coordinates
 pub place_in-near : (unit : Unit) (p : WholePoint) → IsNearOrigin (place_in unit p)
 place_in-near unit p = record { x = coordinate-near unit p.x p.x_near; y = coordinate-near unit p.y p.y_near }
