@@ -4,7 +4,7 @@ use Rattle.std.specs.Prelude.{reverse}
 use Rattle.std.proofs.lemmas.List.{append-nil, append_assoc, reverse-append, reverse-reverse}
 use Rattle.tk_tour.specs.Tour.{IsRotation, SameCycle, IsPath}
 
--- where two cuts of one list stand: the one or the other comes first
+-- of two cuts of a list, one or the other comes first
 abbrev pub CutsMeet : List ℕ → List ℕ → List ℕ → List ℕ → Type 0
 CutsMeet q p r s = ((t : List ℕ) × (q ≡ r ++ t) × (s ≡ t ++ p)) ⊎ ((t : List ℕ) × (r ≡ q ++ t) × (p ≡ t ++ s))
 
@@ -66,7 +66,7 @@ SameCycle-trans {xs} {ys} {zs} h k =
     k)
     h
 
--- A ++ rev B and rev A ++ B are one cycle
+-- xs ++ reverse ys and reverse xs ++ ys are the same cycle
 pub SameCycle-either_side : (xs ys : List ℕ) → SameCycle (xs ++ reverse ys) (reverse xs ++ ys)
 SameCycle-either_side xs ys =
     inr (record {
@@ -79,14 +79,14 @@ SameCycle-either_side xs ys =
 pub SameCycle-append : (xs ys : List ℕ) → SameCycle (xs ++ ys) (ys ++ xs)
 SameCycle-append xs ys = inl (IsRotation-append xs ys)
 
--- the same cycle from its second part on, and by an equal list
+-- the same cycle, beginning with its second part, or given by an equal list
 pub turn : (t xs ys : List ℕ) → SameCycle t (xs ++ ys) → SameCycle t (ys ++ xs)
 turn t xs ys h = SameCycle-trans h (SameCycle-append xs ys)
 
 pub same : (t xs ys : List ℕ) → xs ≡ ys → SameCycle t xs → SameCycle t ys
 same t xs ys e h = let P : List ℕ → Type 0 = λ v. SameCycle t v in subst P e h
 
--- paths
+-- two paths one after another, and a reversed path
 pub IsPath-append : {d x y a : ℕ} {front back : List ℕ} → IsPath d front x → IsPath y back a →
     IsPath d (front ++ back) a
 IsPath-append {d} {x} {y} {a} {front} {back} f g = (

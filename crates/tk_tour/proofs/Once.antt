@@ -1,4 +1,4 @@
--- Lists that hold no city twice: a cut of their cycle at two steps is one cut only.
+-- Lists that contain no city twice: their cycle can be cut at two edges in only one way.
 use Rattle.std.proofs.Common.{◌≡◌, ℕ, ◌+◌, ◌≤◌, ⊎_elim, inl, inr, List, [], ◌∷◌, ◌++◌, refl, sym, ap, ◌∙◌, arith, eqb}
 use Rattle.std.proofs.Common.{cond}
 use Rattle.std.specs.Prelude.{reverse}
@@ -37,7 +37,7 @@ pub occurrences-cycle : (c : ℕ) {xs ys : List ℕ} → SameCycle xs ys → occ
 occurrences-cycle c {xs} {ys} h =
     ⊎_elim (λ f. occurrences-rotation c f) (λ f. sym (occurrences-reverse c ys) ∙ occurrences-rotation c f) h
 
--- no city stands twice
+-- no city occurs twice
 abbrev pub HoldsOnce : List ℕ → Type 0
 HoldsOnce xs = (c : ℕ) → occurrences c xs ≤ 1
 
@@ -51,7 +51,7 @@ overlap c us ys vs (x ∷ t) once e =
     let n : occurrences c vs ≡ occurrences c (t ++ c ∷ ys) = ap (occurrences c) e' in
     absurd (omega (arith, once, n, occurrences-at c us vs, occurrences-at c t ys))
 
--- a city that stands once cuts the list at one place
+-- a city that occurs once cuts the list at only one position
 pub one_place : (c : ℕ) (xs ys us vs : List ℕ) → occurrences c (xs ++ c ∷ ys) ≤ 1 → xs ++ c ∷ ys ≡ us ++ c ∷ vs →
     (xs ≡ us) × (ys ≡ vs)
 one_place c xs ys us vs once e =
@@ -101,7 +101,7 @@ same_way a b c d front back us vs once pf pb pu pv h =
     let k = one_place b front pb.0.0 us pv.0.0 o e' in
     (sym k.0, pv.0.1 ∙ ap (λ v. b ∷ v) (sym k.1) ∙ sym pb.0.1)
 
--- the other way round, the cycle has two cities
+-- if the directions differ, the cycle has only two cities
 other_way : (a b c d : ℕ) (front back us vs : List ℕ) → HoldsOnce (front ++ back) →
     IsPath d front a → IsPath b back c → IsPath d us a → IsPath b vs c →
     IsRotation (front ++ back) (reverse (us ++ vs)) → SamePieces front back us vs
@@ -139,14 +139,14 @@ other_way a b c d front back us vs once pf pb pu pv h =
     let ev : vs ≡ b ∷ [] = sym (reverse-reverse vs) ∙ ap reverse (qv.1.1 ∙ ap (λ v. v ++ b ∷ []) k1.1) in
     (eu ∙ sym (pf.1.1 ∙ ap (λ v. v ++ a ∷ []) k2.1), ev ∙ sym (pb.0.1 ∙ ap (λ v. b ∷ v) k2.0))
 
--- a cycle is cut at two steps in one way
+-- a cycle is cut at two edges in only one way
 pub same_pieces : (a b c d : ℕ) (front back us vs : List ℕ) → HoldsOnce (front ++ back) →
     IsPath d front a → IsPath b back c → IsPath d us a → IsPath b vs c →
     SameCycle (front ++ back) (us ++ vs) → SamePieces front back us vs
 same_pieces a b c d front back us vs once pf pb pu pv h =
     ⊎_elim (same_way a b c d front back us vs once pf pb pu pv) (other_way a b c d front back us vs once pf pb pu pv) h
 
--- so one cut tells what the flip does
+-- therefore, one cut is enough to know the result of a flip
 pub ReplacesSteps-from_cut : (a b c d : ℕ) (old new front back : List ℕ) → HoldsOnce old →
     IsPath d front a → IsPath b back c → SameCycle old (front ++ back) → SameCycle new (front ++ reverse back) →
     ReplacesSteps old new a b c d
@@ -156,7 +156,7 @@ ReplacesSteps-from_cut a b c d old new front back once pf pb h k = λ us vs pu p
     (SameCycle-trans (SameCycle-sym h) g) in
     rw (s.0, s.1) k
 
--- the steps may be named in the other order
+-- the edges can be given in the other order, or with their ends exchanged
 pub ReplacesSteps-turn : (a b c d : ℕ) (old new : List ℕ) → ReplacesSteps old new c d a b →
     ReplacesSteps old new a b c d
 ReplacesSteps-turn a b c d old new f = λ us vs pu pv g.

@@ -1,8 +1,8 @@
--- The places of the first entries of a list.
+-- The positions of the first entries of a list.
 use Rattle.std.proofs.Common.{◌≡◌, ◌≢◌, ℕ, ◌+◌, ◌-◌, ◌<◌, ◌≤◌, List, length, arith, get_or}
 use Rattle.tk_tour.specs.Reversal.{IsInverse}
 
--- the first `done` cities have their places, and no other city has one
+-- `place` contains the positions of the first `done` cities, and no other positions
 pub record Placing (cities place : List ℕ) (done : ℕ) : Type 0 where
   pub size : length place ≡ length cities
   pub placed : (k : ℕ) → k < done → (0 < get_or cities k 0) × (get_or cities k 0 ≤ length cities)

@@ -1,5 +1,5 @@
--- The two or three flips of a segment's move. With s, p and q as the three parts of the cycle,
--- s ++ p ++ q becomes p ++ reverse s ++ q by two of them, and p ++ s ++ q by a third.
+-- The two or three flips of an Or-opt move. If s, p and q are the three parts of the cycle, s ++ p ++ q becomes
+-- p ++ reverse s ++ q by two of them, and p ++ s ++ q by a third.
 use Rattle.std.proofs.Common.{◌≡◌, ◌⊎◌, ℕ, List, ◌++◌, sym, ap, ◌∙◌, inl, inr, length, arith}
 use Rattle.std.specs.Prelude.{reverse}
 use Rattle.std.proofs.lemmas.List.{append_assoc, reverse-append, reverse-reverse}
@@ -12,7 +12,7 @@ itself : (xs : List ℕ) → SameCycle xs xs
 itself xs = inl (IsRotation-refl xs)
 
 module _ {old : List ℕ} {a x e b c d : ℕ} (k : CutInThree old a x e b c d) where
-  -- what is turned round, and the path that stays
+  -- the path that the first flip reverses, and those that the second and the third keep
   both : IsPath x (k.segment ++ k.ahead) c
   both = IsPath-append k.is_segment k.is_ahead
 
@@ -22,7 +22,7 @@ module _ {old : List ℕ} {a x e b c d : ℕ} (k : CutInThree old a x e b c d) w
   rest_ahead : IsPath d (k.rest ++ k.ahead) c
   rest_ahead = IsPath-append k.is_rest k.is_ahead
 
-  -- first the segment and what is ahead of it turn round as one
+  -- first, the segment and the path ahead of it are reversed together
   begun : SameCycle old (k.rest ++ (k.segment ++ k.ahead))
   begun = turn old (k.segment ++ k.ahead) k.rest k.cycle
 
@@ -42,7 +42,7 @@ module _ {old : List ℕ} {a x e b c d : ℕ} (k : CutInThree old a x e b c d) w
       SameCycle t ((reverse k.segment ++ k.rest) ++ reverse k.ahead)
   first_flip t f = first_after t (f k.rest (k.segment ++ k.ahead) k.is_rest both begun)
 
-  -- then what was ahead of the segment turns back
+  -- then, the path is reversed back
   pub second_cut : (t : List ℕ) → IsSizedTour t → SameCycle t ((reverse k.segment ++ k.rest) ++ reverse k.ahead) →
       CanFlip t a c b e
   second_cut t tour h =
@@ -58,7 +58,7 @@ module _ {old : List ℕ} {a x e b c d : ℕ} (k : CutInThree old a x e b c d) w
       same new _ _ (sym (append_assoc k.ahead (reverse k.segment) k.rest))
       (turn new (reverse k.segment ++ k.rest) k.ahead (same new _ _ eq h'))
 
-  -- last the segment itself
+  -- last, the segment is reversed back
   between : (t : List ℕ) → SameCycle t (k.ahead ++ reverse k.segment ++ k.rest) →
       SameCycle t ((k.rest ++ k.ahead) ++ reverse k.segment)
   between t h =
@@ -79,7 +79,7 @@ module _ {old : List ℕ} {a x e b c d : ℕ} (k : CutInThree old a x e b c d) w
       ap (λ v. (k.rest ++ k.ahead) ++ v) (reverse-reverse k.segment) ∙ append_assoc k.rest k.ahead k.segment in
       turn new k.rest (k.ahead ++ k.segment) (same new _ _ eq h')
 
-  -- a segment that stands between y and w has moved
+  -- a segment that lies between y and w has moved
   moved : (new : List ℕ) (y w : ℕ) →
       (IsPath b k.ahead y × IsPath w k.rest a × SameCycle new (k.ahead ++ k.segment ++ k.rest))
       ⊎ (IsPath b k.ahead w × IsPath y k.rest a × SameCycle new (k.ahead ++ reverse k.segment ++ k.rest)) →
@@ -102,7 +102,7 @@ module _ {old : List ℕ} {a x e b c d : ℕ} (k : CutInThree old a x e b c d) w
       OrMove (length k.segment) old new a x e b c d
   OrMove-straight new h = moved new c d (inl (k.is_ahead, k.is_rest, h))
 
-  -- the same steps as 2-opt moves of lists
+  -- these three flips as 2-opt moves of lists
   pub turns_both : TwoOptMove old (k.rest ++ reverse (k.segment ++ k.ahead)) a x c d
   turns_both = record {
     kept = k.rest;

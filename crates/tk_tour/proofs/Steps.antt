@@ -1,4 +1,4 @@
--- What stands side by side on a cycle: `next_city` and `prev_city` of any list of it.
+-- Neighbours on a cycle: `next_city` and `prev_city` of any list of it.
 use Rattle.std.proofs.Common.{◌≡◌, ◌≢◌, ℕ, ◌+◌, ◌<◌, ◌≤◌, ◌⊎◌, ⊎_elim, inl, inr, List, [], ◌∷◌, ◌++◌, length, refl, sym}
 use Rattle.std.proofs.Common.{ap, ◌∙◌, arith, get_or}
 use Rattle.std.specs.Prelude.{reverse}
@@ -54,7 +54,7 @@ left_part xs f us (z ∷ (w ∷ t)) vs x y once e g =
     (e ∙ ap (λ v. f ++ (us ++ (v ∷ (w ∷ t)))) ez ∙ ap (λ v. f ++ (us ++ (x ∷ (v ∷ t)))) ew
     ∙ sym (append_assoc f us (x ∷ (y ∷ t))))
 
--- x and then y in some rotation
+-- x is followed by y in a rotation
 pub Neighbours-rotation : (xs us vs : List ℕ) (x y : ℕ) → HoldsOnce xs → IsRotation xs (us ++ (x ∷ (y ∷ vs))) →
     Neighbours xs x y
 Neighbours-rotation xs us vs x y once h =
@@ -81,7 +81,7 @@ city_on_cycle n c xs tour h =
 abbrev AreSteps : List ℕ → ℕ → ℕ → ℕ → ℕ → Type 0
 AreSteps xs a b c d = ((b ≡ next_city xs a) × (d ≡ next_city xs c)) ⊎ ((b ≡ prev_city xs a) × (d ≡ prev_city xs c))
 
--- a cut of the cycle in two paths is what a flip asks for
+-- if the cycle is cut into two paths, a flip at the cut is allowed
 pub CanFlip-from_cut : (xs front back : List ℕ) (a b c d : ℕ) → IsTour (length xs) xs → IsPath d front a →
     IsPath b back c → SameCycle xs (front ++ back) → CanFlip xs a b c d
 CanFlip-from_cut xs front back a b c d tour pf pb h =

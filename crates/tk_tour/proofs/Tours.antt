@@ -1,4 +1,4 @@
--- A tour holds the numbers 1 to n and no other, each at one place.
+-- A tour contains the numbers 1 to n and no others, each at one position.
 use Rattle.std.proofs.Common.{◌≡◌, ◌≢◌, ℕ, ◌+◌, ◌-◌, ◌<◌, ◌≤◌, ◌%◌, ◌*◌, suc, zero, ◌⊎◌, ⊎_elim, inl, inr, List, []}
 use Rattle.std.proofs.Common.{◌∷◌, ◌++◌, length, take, drop, refl, sym, ap, ◌∙◌, arith, eqb, cond, get_or, zero-add}
 use Rattle.std.proofs.lemmas.List.{take-append-drop, length-take, get_or-take, drop_more}
@@ -24,7 +24,7 @@ occurrences-nil c = refl
 pub occurrences-same : (c x : ℕ) (xs : List ℕ) → c ≡ x → occurrences c (x ∷ xs) ≡ 1 + occurrences c xs
 occurrences-same c x xs e = ap (λ v. occurrences c (v ∷ xs)) (sym e) ∙ occurrences-cons c xs
 
--- how many entries are among 1 to m
+-- the number of entries from 1 to m
 entries_to : ℕ → List ℕ → ℕ
 entries_to zero xs = 0
 entries_to (suc m) xs = entries_to m xs + occurrences (suc m) xs
@@ -105,7 +105,7 @@ city_in_range n xs k h lt =
     (λ r. absurd (omega (arith, occurrences-index xs k lt, occurrences-outside n (get_or xs k 0) xs h r)))
     (inside_or_not n (get_or xs k 0))
 
--- two places hold two cities
+-- different positions contain different cities
 pub places_differ : (xs : List ℕ) (i j : ℕ) → HoldsOnce xs → i < j → j < length xs → get_or xs i 0 ≢ get_or xs j 0
 places_differ xs i j once lt le e =
     let c : ℕ = get_or xs j 0 in
@@ -126,7 +126,7 @@ place_of-get_or xs k once lt =
     (eqb_tells (get_or xs j 0) (get_or xs k 0)))
     (λ _. eq-eqb _ _ refl)
 
--- a city that occurs stands at some place
+-- a city that occurs has a position
 pub place_found : (c : ℕ) (xs : List ℕ) → 1 ≤ occurrences c xs → (j : ℕ) × (j < length xs) × (get_or xs j 0 ≡ c)
 place_found c [] h = absurd (omega (arith, h, occurrences-nil c))
 place_found c (x ∷ xs) h =
@@ -137,7 +137,7 @@ place_found c (x ∷ xs) h =
     (suc k.0, omega (arith, k.1), k.2))
     (cases_eq c x)
 
--- each city stands at its place
+-- each city is at its position
 pub city_at_place : (order place : List ℕ) (c : ℕ) → IsTour (length order) order → IsInverse order place → 0 < c →
     c ≤ length order →
     (get_or place (c - 1) 0 < length order) × (get_or order (get_or place (c - 1) 0) 0 ≡ c)
@@ -146,7 +146,7 @@ city_at_place order place c tour inverse low high =
     let e : get_or place (c - 1) 0 ≡ f.0 = ap (λ v. get_or place (v - 1) 0) (sym f.2) ∙ (inverse.1 f.0 f.1).2 in
     (omega (arith, e, f.1), ap (λ v. get_or order v 0) e ∙ f.2)
 
--- the cities after one and before it are cities of the tour
+-- the cities after and before a city are cities of the tour
 pub next_city-city : (xs : List ℕ) (c : ℕ) → IsSizedTour xs → IsCity (length xs) (next_city xs c)
 unfolding next_city
 next_city-city xs c tour =
@@ -189,7 +189,7 @@ prev_city-start xs k once e =
     ap (λ v. get_or xs ((v + length xs - 1) % length xs) 0) (place_of-get_or xs 0 once (omega arith))
     ∙ ap (λ v. get_or xs (v % length xs) 0) f ∙ ap (λ v. get_or xs v 0) (mod-eq_of_lt (omega arith))
 
--- the way back: entries that lie in 1 to n and differ are a tour
+-- the converse: distinct entries from 1 to n are a tour
 pub HoldsOnce-from_distinct : (xs : List ℕ) →
     ((i j : ℕ) → i < j → j < length xs → get_or xs i 0 ≢ get_or xs j 0) → HoldsOnce xs
 HoldsOnce-from_distinct [] h = λ c. omega (arith, occurrences-nil c)
@@ -248,7 +248,7 @@ IsTour-from_inverse order place h =
     let same : i ≡ j = sym a ∙ ap (λ v. get_or place (v - 1) 0) e ∙ b in
     omega (arith, same))
 
--- a list that holds no city twice, all of 1 to n, has at most n entries
+-- a list that contains no city twice, all of them from 1 to n, has at most n entries
 pub length-distinct : (n : ℕ) (xs : List ℕ) → ((k : ℕ) → k < length xs → (0 < get_or xs k 0) × (get_or xs k 0 ≤ n)) →
     HoldsOnce xs → length xs ≤ n
 length-distinct n xs r once = omega (arith, entries_to-all n xs r, entries_to-le n xs once)
@@ -259,7 +259,7 @@ entries_to-least zero xs h = omega arith
 entries_to-least (suc m) xs h =
     omega (arith, entries_to-least m xs (λ c low high. h c low (omega arith)), h (suc m) (omega arith) (omega arith))
 
--- and at least n where it holds them all
+-- and a list of entries from 1 to n that contains all of these has at least n
 pub length-whole : (n : ℕ) (xs : List ℕ) → ((k : ℕ) → k < length xs → (0 < get_or xs k 0) × (get_or xs k 0 ≤ n)) →
     ((c : ℕ) → 0 < c → c ≤ n → 1 ≤ occurrences c xs) → n ≤ length xs
 length-whole n xs r h = omega (arith, entries_to-all n xs r, entries_to-least n xs h)

@@ -1,9 +1,9 @@
--- The cities around a city of a tour.
+-- The three cities after a city of a tour, and the three before it.
 use Rattle.std.specs.Prelude.{◌≡◌, ℕ, List, [], ◌∷◌}
 use Rattle.tk_tour.specs.Tour.{next_city, prev_city}
 use Rattle.tk_tour.specs.declared.store.Around.{Around}
 
--- the first three cities on a way from c
+-- the first three cities from c on, in the direction of `step`
 abbrev pub three_from : (ℕ → ℕ) → ℕ → List ℕ
 three_from step c = step c ∷ step (step c) ∷ step (step (step c)) ∷ []
 

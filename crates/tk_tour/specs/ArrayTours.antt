@@ -1,13 +1,13 @@
--- What callers see of an `ArrayTour`: the order of its cities and its counts.
+-- The state of an `ArrayTour`, as its contracts describe it: the order of its cities and its counters.
 use Rattle.std.specs.Prelude.{◌≡◌, ℕ, ◌<◌, ◌^◌, List}
 use Rattle.tk_tour.specs.Tally.{Tally, OnlyFlips, OnlyFlips-refl, OnlyFlips-trans}
 use Rattle.tk_tour.specs.declared.stores.array.ArrayTour.{ArrayTour}
 
--- the cities in the order in which they stand
+-- the cities in their order
 abbrev pub order_of : ArrayTour → List ℕ
 order_of tour = tour.order.items
 
--- the swaps of its flips, those of its undone flips, its flips, and the entries that were copied into it
+-- the swaps of its flips, those of its undone flips, its flips, and the cities that were copied into it
 abbrev pub swaps_of : ArrayTour → ℕ
 swaps_of tour = tour.swaps
 
@@ -20,7 +20,7 @@ flips_of tour = tour.flips
 abbrev pub copied_of : ArrayTour → ℕ
 copied_of tour = tour.copied
 
--- it has made no flip and no swap since
+-- the counters of flips and swaps are unchanged
 abbrev pub SameFlips : ArrayTour → ArrayTour → Type 0
 SameFlips old new = (swaps_of new ≡ swaps_of old) × (flips_of new ≡ flips_of old)
     × (undo_swaps_of new ≡ undo_swaps_of old)
@@ -34,7 +34,7 @@ tally_of tour = record {
   copied = copied_of tour;
 }
 
--- what flips alone do
+-- the effect of flips without any other call
 abbrev pub FlipsAlone : ArrayTour → ArrayTour → Type 0
 FlipsAlone old new = OnlyFlips (tally_of old) (tally_of new)
 
@@ -44,7 +44,7 @@ FlipsAlone-refl tour = OnlyFlips-refl (tally_of tour) tour.fits.2 tour.fits.0
 pub FlipsAlone-trans : (r s t : ArrayTour) → FlipsAlone r s → FlipsAlone s t → FlipsAlone r t
 FlipsAlone-trans r s t h k = OnlyFlips-trans (tally_of r) (tally_of s) (tally_of t) h k
 
--- and nothing else is counted
+-- flips leave the other counters unchanged
 pub FlipsAlone-kept : (old new : ArrayTour) → FlipsAlone old new →
     (undo_swaps_of new ≡ undo_swaps_of old) × (copied_of new ≡ copied_of old)
 FlipsAlone-kept old new h = (h.undo_swaps, h.copied)

@@ -1,4 +1,4 @@
--- What the faults of `from_list` say of the list.
+-- The faults of a list that `from_list` rejects.
 use Rattle.std.specs.Prelude.{ℕ, ◌<◌, ◌≤◌, ◌⊎◌, List, length}
 use Rattle.tk_problem.specs.declared.limits.TheConstants.{CITY_LIMIT}
 use Rattle.tk_tour.specs.Verdict.{IsVerdict}
@@ -10,7 +10,7 @@ use Rattle.tk_tour.specs.declared.fault.TourFault.TheVariants as fault
 abbrev pub IsTourSize : ℕ → Type 0
 IsTourSize n = (2 ≤ n) × (n ≤ CITY_LIMIT)
 
--- the count comes first; a list of so many cities that is no tour has the fault of its verdict
+-- the count comes first; a list with this number of cities that is not a tour has the fault of its verdict
 abbrev pub HasTourFault : List ℕ → TourFault → Type 0
 HasTourFault cities fault.WrongCount = (length cities < 2) ⊎ (CITY_LIMIT < length cities)
 HasTourFault cities (fault.OutOfRange p) =

@@ -1,4 +1,4 @@
--- What callers see of a `JournalTour`: its tour, and the order that a rewind goes back to.
+-- The state of a `JournalTour`, as its contracts describe it: its tour, and the order that a rewind restores.
 use Rattle.std.specs.Prelude.{◌≡◌, ℕ, ◌+◌, ◌^◌, ◌<◌, ◌≤◌, List, refl}
 use Rattle.std.proofs.Common.{◌∙◌, arith}
 use Rattle.tk_tour.specs.Counters.{saturated}
@@ -12,7 +12,7 @@ use Rattle.tk_tour.specs.declared.undo.UndoStore as undo
 abbrev pub tour_of : {S : Type 0} → {u : undo.Ghosts S} → {s : Ghosts S} → JournalTour S u s → S
 tour_of journal = journal.tour
 
--- the cities of its tour in their order, and what it counts: the swaps of its flips, those of its undone flips, its
+-- the cities of its tour in their order, and its counters: the swaps of its flips, those of its undone flips, its
 -- flips, and the cities that were copied into it
 abbrev pub cities_of : {S : Type 0} → {u : undo.Ghosts S} → {s : Ghosts S} → JournalTour S u s → List ℕ
 cities_of {S} {u} {s} journal = s.cities journal.tour
@@ -29,29 +29,29 @@ flips_of {S} {u} {s} journal = s.flip_count journal.tour
 abbrev pub copied_of : {S : Type 0} → {u : undo.Ghosts S} → {s : Ghosts S} → JournalTour S u s → ℕ
 copied_of {S} {u} {s} journal = u.copy_count journal.tour
 
--- its tour has made no flip and no swap since
+-- the counters of flips and swaps are unchanged
 abbrev pub SameFlips : {S : Type 0} → {u : undo.Ghosts S} → {s : Ghosts S} → JournalTour S u s → JournalTour S u s →
     Type 0
 SameFlips old new = (swaps_of new ≡ swaps_of old) × (flips_of new ≡ flips_of old)
     × (undo_swaps_of new ≡ undo_swaps_of old)
 
--- how many flips there is room for
+-- the number of flips for which there is room
 abbrev pub slots_of : {S : Type 0} → {u : undo.Ghosts S} → {s : Ghosts S} → JournalTour S u s → ℕ
 slots_of journal = journal.slots
 
--- the flips since it was made, settled or rewound
+-- the number of flips since the tour was created, settled or rewound
 abbrev pub flips_since : {S : Type 0} → {u : undo.Ghosts S} → {s : Ghosts S} → JournalTour S u s → ℕ
 flips_since journal = journal.flips
 
--- some of these flips found no room
+-- the journal has overflowed: there was no room for some of these flips
 abbrev pub IsLost : {S : Type 0} → {u : undo.Ghosts S} → {s : Ghosts S} → JournalTour S u s → Type 0
 IsLost journal = slots_of journal < flips_since journal
 
--- the order at the last settle, as long as no flip is lost
+-- the order in which the tour was last settled, unless the journal has overflowed
 abbrev pub settled_order : {S : Type 0} → {u : undo.Ghosts S} → {s : Ghosts S} → JournalTour S u s → List ℕ
 settled_order journal = undone journal.journal.items (cities_of journal)
 
--- the swaps that a rewind takes, as long as no flip is lost
+-- the swaps that a rewind takes, unless the journal has overflowed
 abbrev pub swaps_to_rewind : {S : Type 0} → {u : undo.Ghosts S} → {s : Ghosts S} → JournalTour S u s → ℕ
 swaps_to_rewind journal = swaps_to_undo journal.journal.items
 
@@ -64,11 +64,12 @@ tally_of u s tour = record {
   copied = u.copy_count tour;
 }
 
--- what flips alone do to its tour
+-- the effect of flips on its tour, without any other call
 abbrev pub AreFlipped : {S : Type 0} → undo.Ghosts S → Ghosts S → S → S → Type 0
 AreFlipped u s old new = OnlyFlips (tally_of u s old) (tally_of u s new)
 
--- what flips alone do: they are counted, and as long as none is lost, a rewind goes back as far, and takes their swaps
+-- the effect of flips without any other call: they are counted, and unless the journal has overflowed, a rewind
+-- restores the same order as before and takes their swaps in addition
 pub record KeepsSettled {S : Type 0} {u : undo.Ghosts S} {s : Ghosts S} (old new : JournalTour S u s) : Type 0 where
   pub slots : slots_of new ≡ slots_of old
   pub flipped : AreFlipped u s (tour_of old) (tour_of new)

@@ -1,27 +1,27 @@
--- Places of a list, counted modulo its length, and their reversal.
+-- Positions of a list, counted modulo its length, and their reversal.
 use Rattle.std.specs.Prelude.{◌≡◌, ℕ, ◌+◌, ◌-◌, ◌*◌, ◌/◌, ◌<◌, ◌≤◌, List, ◌++◌, length, reverse, take, drop}
 use Rattle.std.specs.Prelude.{slice_index}
 
--- xs begun at its k-th place, from 0
+-- the rotation of xs that begins with the position k, counted from 0
 abbrev pub begun_at : ℕ → List ℕ → List ℕ
 begun_at k xs = drop k xs ++ take k xs
 
--- the first `count` places in reverse order
+-- xs with its first `count` entries reversed
 abbrev pub reversed_front : ℕ → List ℕ → List ℕ
 reversed_front count xs = reverse (take count xs) ++ drop count xs
 
--- `count` places from the k-th on, from 0 and modulo the length, in reverse order
+-- xs with `count` positions from k on reversed, counted from 0 and modulo the length
 abbrev pub reversed_places : ℕ → ℕ → List ℕ → List ℕ
 reversed_places k count xs = begun_at (length xs - k) (reversed_front count (begun_at k xs))
 
--- one list comes from another by so many reversals, each of at most half of the places, which take so many swaps in all
+-- one list comes from another by this many reversals, each of at most half of the positions, with this many swaps
 pub data AreReversed (old : List ℕ) : List ℕ → ℕ → ℕ → Type 0 where
   none : AreReversed old old 0 0
   more : {new : List ℕ} {flips swaps : ℕ} (k count : ℕ) → AreReversed old new flips swaps →
       k < length new → 2 * count ≤ length new →
       AreReversed old (reversed_places k count new) (flips + 1) (swaps + count / 2)
 
--- the place array tells where each city of the order stands
+-- `place` contains the position of each city c of the order, counted from 0, at index c - 1
 abbrev pub IsInverse : List ℕ → List ℕ → Type 0
 IsInverse order place =
     (length place ≡ length order) × ((k : ℕ) → k < length order →

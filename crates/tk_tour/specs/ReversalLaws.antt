@@ -1,4 +1,4 @@
--- Reversals one after another.
+-- Sequences of reversals.
 use Rattle.std.proofs.Common.{◌≡◌, ℕ, ◌+◌, ◌*◌, ◌/◌, ◌<◌, ◌≤◌, List, length, sym, subst, arith}
 use Rattle.tk_tour.specs.Reversal.{AreReversed, reversed_places}
 use Rattle.tk_tour.specs.Reversal.AreReversed.{none, more}
@@ -16,7 +16,7 @@ AreReversed-one xs ys k count is first half =
     (counted xs (reversed_places k count xs) (0 + 1) (0 + count / 2) 1 (count / 2) (omega arith) (omega arith)
     (more k count none first half))
 
--- those from one list to a second, and from there to a third
+-- the reversals from one list to a second, and from there to a third
 pub AreReversed-append : (xs ys zs : List ℕ) (f s g t : ℕ) → AreReversed xs ys f s → AreReversed ys zs g t →
     AreReversed xs zs (f + g) (s + t)
 AreReversed-append xs ys _ f s _ _ h none = counted xs ys f s (f + 0) (s + 0) (omega arith) (omega arith) h

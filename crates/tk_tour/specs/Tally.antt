@@ -1,4 +1,4 @@
--- What a tour store counts, and what flips alone do to it.
+-- The order and the counters of a tour store, and the effect of flips on them.
 use Rattle.std.specs.Prelude.{◌≡◌, ℕ, ◌+◌, ◌^◌, ◌<◌, List, refl}
 use Rattle.std.proofs.Common.{◌∙◌, arith}
 use Rattle.tk_tour.specs.Counters.{saturated}
@@ -14,7 +14,7 @@ pub record Tally : Type 0 where
   pub flips : ℕ
   pub copied : ℕ
 
--- the new order comes from the old one by reversals, which are counted with their swaps, and nothing else is counted
+-- the new order comes from the old one by reversals, which are counted with their swaps; other counters are unchanged
 pub record OnlyFlips (old new : Tally) : Type 0 where
   pub flips : ℕ
   pub swaps : ℕ
@@ -51,7 +51,7 @@ OnlyFlips-trans r s t h k = record {
   copied = k.copied ∙ h.copied;
 }
 
--- the flips of both, and the swaps of both
+-- the flips and the swaps of both add up
 pub OnlyFlips-trans-counts : (r s t : Tally) (h : OnlyFlips r s) (k : OnlyFlips s t) →
     ((OnlyFlips-trans r s t h k).flips ≡ h.flips + k.flips) × ((OnlyFlips-trans r s t h k).swaps ≡ h.swaps + k.swaps)
 unfolding OnlyFlips-trans

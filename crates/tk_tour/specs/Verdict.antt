@@ -1,16 +1,17 @@
--- What a verdict says of a list.
+-- The verdict on a list.
 use Rattle.std.specs.Prelude.{◌≡◌, ◌≢◌, ℕ, ◌-◌, ◌<◌, ◌≤◌, ◌⊎◌, List, length, slice_index}
 use Rattle.tk_tour.specs.Tour.{IsTour}
 use Rattle.tk_tour.specs.declared.verdict.Verdict.{Verdict}
 use Rattle.tk_tour.specs.declared.verdict.Verdict.TheVariants.{Tour, WrongCount, OutOfRange, RepeatedCity}
 
--- among the entries before place k, from 0, each lies in 1 to n and repeats none before it
+-- each entry before position k, counted from 0, is from 1 to n and different from all entries before it
 abbrev pub IsGoodTo : ℕ → List ℕ → ℕ → Type 0
 IsGoodTo n cities k =
     (j : ℕ) → j < k → (0 < slice_index cities j) × (slice_index cities j ≤ n)
     × ((i : ℕ) → i < j → slice_index cities i ≢ slice_index cities j)
 
--- the first fault of a list that should be a tour of n cities: its count, then place by place, from 1
+-- the verdict on a list that should be a tour of n cities: a tour, or its first fault. The count is checked first, and
+-- then, position by position, the range before repetitions. Positions are counted from 1.
 abbrev pub IsVerdict : ℕ → List ℕ → Verdict → Type 0
 IsVerdict n cities Tour = IsTour n cities
 IsVerdict n cities WrongCount = length cities ≢ n
@@ -22,7 +23,7 @@ IsVerdict n cities (RepeatedCity p) =
     × (slice_index cities (p - 1) ≤ n)
     × ((j : ℕ) × (j < p - 1) × (slice_index cities j ≡ slice_index cities (p - 1)))
 
--- the fact, where the verdict is a tour
+-- P, if the verdict is a tour
 abbrev pub IsPlacedWhere : Verdict → Type 0 → Type 0
 IsPlacedWhere Tour P = P
 IsPlacedWhere _ P = Unit {0}

@@ -1,4 +1,5 @@
-//! A segment's move is two flips, or three where it keeps its direction, and a double bridge is four.
+//! Moves made of flips: an Or-opt move of two, or of three if the segment keeps its direction, and a double bridge of
+//! four.
 
 ghost use Rattle.std.specs.Prelude.{◌≡◌, ◌≤◌, ◌+◌, ◌*◌, ◌/◌, length};
 ghost use Rattle.tk_tour.specs.Counters.{saturated};
@@ -7,7 +8,7 @@ ghost use Rattle.tk_tour.specs.OrSteps.{TurnsBoth, TurnsPathBack, TurnsSegmentBa
 
 use crate::store::TourStore;
 
-/// Moves the segment from x to e, which stands between a and b, to between c and d, turned round.
+/// Moves the segment from x to e, which lies between a and b, to between c and d, and reverses it.
 pub fn move_reversed<S: TourStore>(tour: &mut S, a: u32, x: u32, e: u32, b: u32, c: u32, d: u32)
     requires { CutInThree (S.cities tour.old) a x e b c d }
     ensures moved { MovesReversed (S.cities tour.old) (S.cities tour.new) a x e b c d }
@@ -23,7 +24,7 @@ pub fn move_reversed<S: TourStore>(tour: &mut S, a: u32, x: u32, e: u32, b: u32,
     let _ = tour.flip(a, c, b, e);
 }
 
-/// Moves the segment from x to e, which stands between a and b, to between c and d, as it runs.
+/// Moves the segment from x to e, which lies between a and b, to between c and d, without reversing it.
 pub fn move_straight<S: TourStore>(tour: &mut S, a: u32, x: u32, e: u32, b: u32, c: u32, d: u32)
     requires { CutInThree (S.cities tour.old) a x e b c d }
     ensures moved { MovesStraight (S.cities tour.old) (S.cities tour.new) a x e b c d }
@@ -39,7 +40,8 @@ pub fn move_straight<S: TourStore>(tour: &mut S, a: u32, x: u32, e: u32, b: u32,
     let _ = tour.flip(c, e, x, d);
 }
 
-/// The cycle runs along four paths, from a1 to an and so on; the second and the fourth change places.
+/// The double bridge: of the four paths of the cycle, which run from a1 to an and so on, swaps the second and the
+/// fourth.
 pub fn double_bridge<S: TourStore>(
     tour: &mut S,
     a1: u32,
@@ -65,7 +67,7 @@ pub fn double_bridge<S: TourStore>(
     let _ = tour.flip(cn, bn, b1, a1);
 }
 
-/// A law: an Or-move of lists is two 2-opt moves one after another where the segment is turned round, and three where
+/// A law: an Or-opt move of lists is a sequence of 2-opt moves of lists: two if the segment is reversed, and a third if
 /// it keeps its direction.
 pub fn or_moves_are_two_opt_moves()
     ensures first { TurnsBoth }

@@ -1,5 +1,5 @@
-//! Tours: checking, length, what a tour store does, moves made of reversals; array tours and their printed form,
-//! journals that undo reversals.
+//! Tours: check, length, tour stores and moves made of flips; array tours and their canonical form, and journals that
+//! undo flips.
 #![tactic(auto)]
 
 mod fault;

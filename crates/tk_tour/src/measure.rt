@@ -6,8 +6,8 @@ ghost use Rattle.tk_tour.specs.Tour.{tour_length};
 
 use tk_distance::Metric;
 
-/// The sum of the distances along a closed tour through the cities, in their order: 0 for none, and for two the one
-/// distance twice.
+/// The length of the closed tour through the cities in this order: 0 if there are none, and twice the distance if there
+/// are two.
 pub fn length<M: Metric>(metric: &M, cities: &[u32]) -> i64
     requires cities { All (IsCity (M.size_of metric.now)) cities.now }
     requires count { length cities.now * DISTANCE_LIMIT < 2 ^ 63 }

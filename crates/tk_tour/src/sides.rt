@@ -1,4 +1,4 @@
-//! The two sides of a cut at two steps, of which a flip reverses the shorter one.
+//! The two sides of a cut at two edges, of which a flip reverses the shorter one.
 ghost use Rattle.std.specs.Prelude.{◌≡◌, ◌≤◌, ◌<◌, ◌*◌, ℕ, List, length, slice_index};
 ghost use Rattle.tk_problem.specs.declared.limits.TheConstants.{CITY_LIMIT};
 ghost use Rattle.tk_distance.specs.Cities.{IsCity};
@@ -6,12 +6,12 @@ ghost use Rattle.tk_tour.specs.Moves.{AreForward, BeginsInside, CanFlip, TurnsSh
 ghost use Rattle.tk_tour.specs.Places.{PathLength};
 ghost use Rattle.tk_tour.specs.Tour.{IsSizedTour, next_city};
 
-/// A tour that tells where its cities stand, seen as the list of its cities.
+/// A tour that knows the position of each city; its model is the list of its cities.
 pub trait Placed {
     /// The cities in their order.
     ghost cities: { Self → List ℕ };
 
-    /// How many cities there are.
+    /// The number of cities.
     fn city_count(&self) -> u32
         ensures { result ≡ length (cities self.now) };
 
@@ -20,7 +20,7 @@ pub trait Placed {
         requires { IsCity (length (cities self.now)) c }
         ensures { result ≡ next_city (cities self.now) c };
 
-    /// Where the city stands, from 0.
+    /// The position of city c, counted from 0.
     fn place_of(&self, c: u32) -> u32
         requires { IsCity (length (cities self.now)) c }
         ensures within { result < length (cities self.now) }
@@ -29,7 +29,7 @@ pub trait Placed {
     ghost is_tour: { (s : Self) → IsSizedTour (cities s) };
 }
 
-// How many of n places on a cycle there are from one up to another.
+// The number of positions from one up to another, both included, on a cycle of n positions.
 #[inline]
 fn path_length(n: u32, from: u32, to: u32) -> u32
     requires size { n ≤ CITY_LIMIT }
@@ -45,8 +45,8 @@ fn path_length(n: u32, from: u32, to: u32) -> u32
     }
 }
 
-// Where b comes after a and d after c: the places from b to c, or those from d to a where there are fewer of them, as
-// the first from 0 and their number.
+// Like `shorter_side`, if b comes after a and d after c: the positions from b to c, or those from d to a if there are
+// fewer.
 fn side_ahead<S: Placed>(tour: &S, a: u32, b: u32, c: u32, d: u32) -> (u32, u32)
     requires { AreForward (S.cities tour.now) a b c d }
     ensures side { TurnsShorterSide (S.cities tour.now) result.0 result.1 a b c d }
@@ -61,8 +61,9 @@ fn side_ahead<S: Placed>(tour: &S, a: u32, b: u32, c: u32, d: u32) -> (u32, u32)
     (tour.place_of(d), n - inner)
 }
 
-/// The places that a flip of the steps a-b and c-d reverses, as the first from 0 and their number: those of the shorter
-/// side, or of the inner side if both are equally long.
+/// The positions that a flip of the edges a-b and c-d reverses: the first, counted from 0, and their number. They are
+/// those of the shorter side, or of the inner side if both are equally long, and may continue from the end of the list
+/// to its beginning. The inner side is the path from b to c without a.
 pub fn shorter_side<S: Placed>(tour: &S, a: u32, b: u32, c: u32, d: u32) -> (u32, u32)
     requires { CanFlip (S.cities tour.now) a b c d }
     ensures side { TurnsShorterSide (S.cities tour.now) result.0 result.1 a b c d }

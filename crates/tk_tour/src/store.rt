@@ -1,4 +1,4 @@
-//! A tour under flips.
+//! Tour stores: tours that are changed by flips.
 ghost use Rattle.std.specs.Prelude.{◌≡◌, ◌≤◌, ◌+◌, ◌-◌, ◌*◌, ◌/◌, ℕ, List, length, slice_index};
 ghost use Rattle.tk_distance.specs.Cities.{IsCity};
 ghost use Rattle.tk_tour.specs.Around.{AreAround};
@@ -7,35 +7,36 @@ ghost use Rattle.tk_tour.specs.Moves.{CanFlip, IsShorterSide, ReplacesSteps, Two
 ghost use Rattle.tk_tour.specs.Reversal.{reversed_places};
 ghost use Rattle.tk_tour.specs.Counters.{saturated};
 
-/// The places that a flip reversed: `count` of them from `first` on, counted from 1 and modulo the number of cities.
+/// The positions that a flip reversed: `count` of them from `first` on, counted from 1 and modulo the number of cities.
 #[derive(Clone, Copy, PartialEq, Eq, Debug)]
 pub struct Flip {
     pub first: u32,
     pub count: u32,
 }
 
-/// The three cities after a city of a tour, and the three before it, each from the nearest on.
+/// The three cities after a city of a tour, and the three before it, both beginning next to the city.
 #[derive(Clone, Copy, PartialEq, Eq, Debug)]
 pub struct Around {
     pub after: [u32; 3],
     pub before: [u32; 3],
 }
 
-/// A tour of 2 to 100,000 cities under flips, seen as the list of its cities.
+/// A tour of 2 to 100,000 cities that is changed by flips; its model is the list of its cities. Its counters saturate
+/// at 2^64 - 1.
 pub trait TourStore {
     /// The cities in their order.
     ghost cities: { Self → List ℕ };
 
-    /// How many swaps the flips took.
+    /// The number of swaps counted for flips: half of the positions that each one reversed, rounded down.
     ghost swap_count: { Self → ℕ };
 
-    /// How many flips there were.
+    /// The number of flips since the counter was last reset.
     ghost flip_count: { Self → ℕ };
 
-    /// The second came from the first by flips alone.
+    /// The second tour comes from the first by flips only.
     ghost FlipsOnly: { Self → Self → Type 0 };
 
-    /// How many cities there are.
+    /// The number of cities.
     fn size(&self) -> u32
         ensures { result ≡ length (cities self.now) };
 
@@ -58,7 +59,7 @@ pub trait TourStore {
         (self.next(c), self.prev(c))
     }
 
-    /// The cities around c.
+    /// The three cities after c, and the three before it.
     fn around(&self, c: u32) -> Around
         requires { IsCity (length (cities self.now)) c }
         ensures { AreAround (cities self.now) c result }
@@ -71,20 +72,21 @@ pub trait TourStore {
         }
     }
 
-    /// The city at the k-th place, from 1.
+    /// The city at position k, counted from 1.
     fn at(&self, k: u32) -> u32
         requires { IsCity (length (cities self.now)) k }
         ensures { result ≡ slice_index (cities self.now) (k - 1) };
 
-    /// How many swaps the flips took.
+    /// The number of swaps counted for flips: half of the positions that each one reversed, rounded down.
     fn swaps(&self) -> u64
         ensures { result ≡ swap_count self.now };
 
-    /// How many flips there were.
+    /// The number of flips since the counter was last reset.
     fn flips(&self) -> u64
         ensures { result ≡ flip_count self.now };
 
-    /// Replaces the steps a-b and c-d by a-c and b-d, by reversing the shorter side.
+    /// Replaces the edges a-b and c-d by a-c and b-d (a 2-opt move), reversing the shorter side. Returns the positions
+    /// that it reversed.
     fn flip(&mut self, a: u32, b: u32, c: u32, d: u32) -> Flip
         requires { CanFlip (cities self.old) a b c d }
 
@@ -92,14 +94,14 @@ pub trait TourStore {
         ensures made { TwoOptMove (cities self.old) (cities self.new) a b c d }
         ensures steps { ReplacesSteps (cities self.old) (cities self.new) a b c d }
 
-        // the places that it reversed
+        // the positions that it reversed
         ensures places { cities self.new ≡ reversed_places (result.first - 1) result.count (cities self.old) }
         ensures undone { reversed_places (result.first - 1) result.count (cities self.new) ≡ cities self.old }
         ensures first { IsCity (length (cities self.old)) result.first }
         ensures side { IsShorterSide (cities self.old) result.count a b c d }
         ensures shorter { 2 * result.count ≤ length (cities self.old) }
 
-        // what it counts and what it keeps
+        // the counters, and what is unchanged
         ensures swaps { swap_count self.new ≡ saturated (swap_count self.old + result.count / 2) }
         ensures rises { swap_count self.old ≤ swap_count self.new }
         ensures flips { flip_count self.new ≡ saturated (flip_count self.old + 1) }

@@ -1,4 +1,4 @@
-//! Tour stores: array tours, and journals that undo reversals.
+//! Tour stores: array tours, and journals that undo flips.
 pub mod array;
 pub mod journal;
 pub mod placing;

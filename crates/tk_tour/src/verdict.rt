@@ -1,4 +1,4 @@
-//! Whether a list is a tour.
+//! The check whether a list is a tour.
 ghost use Rattle.std.specs.Prelude.{◌≡◌, ◌≤◌, ◌<◌, ◌^◌, ◌-◌, ℕ, IfOk, length, slice_index};
 ghost use Rattle.tk_problem.specs.declared.limits.TheConstants.{CITY_LIMIT};
 ghost use Rattle.tk_tour.specs.Reversal.{IsInverse};
@@ -6,24 +6,25 @@ ghost use Rattle.tk_tour.specs.Verdict.{IsVerdict, IsPlacedWhere};
 
 use std::alloc::{AllocError, Global};
 
-/// Whether a list is a tour of n cities, or its first fault: the count, then place by place, range before repetition.
-/// Places count from 1.
+/// The verdict on a list that should be a tour of n cities: a tour, or its first fault. The count is checked first, and
+/// then, position by position, the range before repetitions. Positions are counted from 1.
 #[derive(Clone, Copy, PartialEq, Eq, Debug)]
 pub enum Verdict {
-    /// It holds each of the cities 1 to n once.
+    /// The list contains each of the cities 1 to n once.
     Tour,
-    /// It has not n entries.
+    /// The list does not have n entries.
     WrongCount,
-    /// The entry at this place is none of 1 to n.
+    /// The entry at this position is not from 1 to n.
     OutOfRange(u32),
-    /// The entry at this place stands at an earlier place too.
+    /// The entry at this position also occurs at an earlier one.
     RepeatedCity(u32),
 }
 
-// No city stands at this place.
+// The position of a city that has not occurred yet.
 const FREE: u32 = u32::MAX;
 
-/// Writes down where each city stands, from 0, up to the first fault. The places of all cities are `u32::MAX` before.
+/// The verdict on a list that should be a tour of as many cities as it has entries. Writes the position of each city c,
+/// counted from 0, to `place[c - 1]`, up to the first fault. All entries of `place` must be `u32::MAX` before.
 pub fn place_cities(cities: &[u32], place: &mut [u32]) -> Verdict
     requires size { length cities.now ≤ CITY_LIMIT }
     requires place_size { length place.old ≡ length cities.now }
@@ -44,10 +45,10 @@ pub fn place_cities(cities: &[u32], place: &mut [u32]) -> Verdict
     Verdict::Tour
 }
 
-/// Whether the list is a tour of n cities, or its first fault.
+/// The verdict on a list that should be a tour of n cities.
 ///
 /// # Errors
-/// `AllocError` where there is no memory for the places of n cities.
+/// `AllocError` if memory runs out.
 pub fn check(alloc: Global, n: u32, cities: &[u32]) -> Result<Verdict, AllocError>
     requires size { n ≤ CITY_LIMIT }
     ensures { IfOk result (λ v. IsVerdict n cities.now v) }

@@ -1,4 +1,4 @@
--- A tour begun at city 1, towards the smaller of its neighbours.
+-- A tour that begins with city 1 and the smaller of its neighbours.
 use Rattle.std.proofs.Common.{◌≡◌, ℕ, ◌+◌, ◌-◌, ◌<◌, ◌≤◌, ⊎_elim, inl, inr, List, length, sym, ap, ◌∙◌, subst}
 use Rattle.std.proofs.Common.{arith, get_or}
 use Rattle.std.specs.Prelude.{reverse}

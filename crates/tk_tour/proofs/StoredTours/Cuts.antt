@@ -1,4 +1,4 @@
--- Where a flip may be made, the cycle can be cut at its two steps.
+-- If a flip is allowed, the cycle can be cut at its two edges.
 use Rattle.std.proofs.Common.{◌≡◌, ◌≢◌, ℕ, ◌+◌, ◌-◌, ◌<◌, ◌≤◌, ⊎_elim, inl, inr, List, [], ◌∷◌, ◌++◌, length, refl, sym}
 use Rattle.std.proofs.Common.{ap, ◌∙◌, arith, get_or}
 use Rattle.std.specs.Prelude.{reverse}
@@ -16,7 +16,7 @@ use Rattle.tk_tour.proofs.Steps.{Neighbours-paths}
 pub IsTour-reverse : (n : ℕ) (xs : List ℕ) → IsTour n xs → IsTour n (reverse xs)
 IsTour-reverse n xs h = (length-reverse xs ∙ h.0, λ c low high. occurrences-reverse c xs ∙ h.1 c low high)
 
--- the way back along a tour goes to the city before
+-- on the reversed tour, the city before c is the one that comes after it on the tour
 pub prev_city-reverse : (n c : ℕ) (xs : List ℕ) → IsTour n xs → IsCity n c → prev_city (reverse xs) c ≡ next_city xs c
 prev_city-reverse n c xs tour ic =
     let f = place_found c xs (omega (arith, tour.1 c ic.0 ic.1)) in
@@ -65,7 +65,7 @@ starts : (xs : List ℕ) (z : ℕ) → (h : ℕ) × IsPath h (xs ++ z ∷ []) z
 starts [] z = (z, (([], refl), ([], refl)))
 starts (x ∷ xs) z = (x, ((xs ++ z ∷ [], refl), (x ∷ xs, refl)))
 
--- a cut in two paths, that end with a and with c
+-- a cut into two paths, which end with a and with c
 record Cut (xs : List ℕ) (a c : ℕ) : Type 0 where
   pub front : List ℕ
   pub back : List ℕ
@@ -109,7 +109,7 @@ cut_at a c xs ne ha hc =
     (split c k.before (omega (arith, hc, e1, e2, e3))))
     (cases_lt 0 (occurrences c k.after))
 
--- the cut at the steps from a and from c on
+-- the cut after a and after c, with the ends of the two paths
 pub record CutAhead (xs : List ℕ) (a c : ℕ) : Type 0 where
   pub front : List ℕ
   pub back : List ℕ
@@ -136,7 +136,7 @@ cut_ahead a c xs once ne ha hc =
       round = k.round;
     }
 
--- so a 2-opt move is made
+-- therefore, a flip makes a 2-opt move
 pub TwoOptMove-from_steps : (old new : List ℕ) (a b c d : ℕ) → IsSizedTour old → CanFlip old a b c d →
     ReplacesSteps old new a b c d → TwoOptMove old new a b c d
 TwoOptMove-from_steps old new a b c d sized can steps =

@@ -1,4 +1,4 @@
--- A flip of an array: which places it reverses, and what that does to the cycle.
+-- A flip of an array: the positions that it reverses, and the effect on the cycle.
 use Rattle.std.proofs.Common.{◌≡◌, ◌≢◌, ℕ, ◌+◌, ◌-◌, ◌<◌, ◌≤◌, ◌⊎◌, ⊎_elim, inl, inr, List, ◌++◌, length, take, drop}
 use Rattle.std.proofs.Common.{refl, sym, ap, ◌∙◌, subst, arith, get_or}
 use Rattle.std.proofs.lemmas.Bool.{cases_lt}
@@ -19,7 +19,7 @@ use Rattle.tk_tour.proofs.Tours.{prev_city-start, city_in_range}
 use Rattle.tk_tour.proofs.StoredTours.Places.{IsRotation-begun_at, length-reversed_places, AtPlace, get_or-begun_at}
 use Rattle.tk_tour.proofs.StoredTours.Places.{SidesAre, path_reversed}
 
--- q comes right after p, modulo n
+-- position q comes right after p, modulo n
 abbrev pub IsAfter : ℕ → ℕ → ℕ → Type 0
 IsAfter n p q = ((p + 1 < n) × (q ≡ p + 1)) ⊎ ((p + 1 ≡ n) × (q ≡ 0))
 
@@ -61,12 +61,12 @@ abbrev PathPlaces : ℕ → ℕ → ℕ → ℕ → ℕ → ℕ → Type 0
 PathPlaces n m pa pb pc pd = (0 < m) × (m < n) × AtPlace n pb 0 pb × AtPlace n pb (m - 1) pc × AtPlace n pb m pd
     × AtPlace n pb (n - 1) pa
 
--- the m places from pb to pc, where pb comes after pa and pd after pc
+-- the m positions from pb to pc, if pb comes after pa and pd after pc
 path_places : (n m pa pb pc pd : ℕ) → pa < n → pb < n → pc < n → pd < n → pa ≢ pc → IsAfter n pa pb → IsAfter n pc pd →
     PathLength n m pb pc → PathPlaces n m pa pb pc pd
 path_places n m pa pb pc pd la lb lc ld ne ab cd e = omega arith
 
--- what reversing the path from b to c does, where it stands at m places from pb on, up to pc
+-- the effect of reversing the path from b to c, at the m positions from pb to pc
 pub flip_inner : (order place : List ℕ) (a b c d m pb pc : ℕ) → IsTour (length order) order → IsInverse order place →
     IsCity (length order) a → IsCity (length order) c → a ≢ c → b ≡ next_city order a → d ≡ next_city order c →
     pb ≡ get_or place (b - 1) 0 → pc ≡ get_or place (c - 1) 0 → PathLength (length order) m pb pc →
@@ -135,7 +135,7 @@ pub next_city-prev_city : (order place : List ℕ) (a : ℕ) → IsTour (length 
 next_city-prev_city order place a tour inverse ca =
     let h = prev_city-at order place a tour inverse ca in ap (next_city order) h.2 ∙ h.3
 
--- steps that run backward are steps that run forward with their ends exchanged
+-- edges that run backward run forward with their ends exchanged
 pub backward : (order place : List ℕ) (a b c d : ℕ) → IsTour (length order) order → IsInverse order place →
     IsCity (length order) a → IsCity (length order) c → a ≢ c →
     b ≡ prev_city order a → d ≡ prev_city order c → AreForward order d c b a
@@ -154,13 +154,13 @@ pub ReplacesSteps-backward : (old new : List ℕ) (a b c d : ℕ) → ReplacesSt
     ReplacesSteps old new a b c d
 ReplacesSteps-backward old new a b c d h = ReplacesSteps-mirror a b c d old new (ReplacesSteps-turn b a d c old new h)
 
--- which way the steps run
+-- if the edges do not run forward, they run backward
 pub only_backward : (order : List ℕ) (a b c d : ℕ) → CanFlip order a b c d →
     (b ≡ next_city order a → d ≡ next_city order c → ⊥) → (b ≡ prev_city order a) × (d ≡ prev_city order c)
 only_backward order a b c d h not_ahead =
     ⊎_elim (λ (k : (b ≡ next_city order a) × (d ≡ next_city order c)). absurd (not_ahead k.0 k.1)) (λ k. k) h.steps
 
--- a reversal leaves a tour
+-- a reversal of a tour is a tour
 pub occurrences-reversed_places : (c k m : ℕ) (xs : List ℕ) → occurrences c (reversed_places k m xs) ≡ occurrences c xs
 occurrences-reversed_places c k m xs =
     let r : List ℕ = begun_at k xs in
@@ -184,13 +184,13 @@ IsSizedTour-reversed_places k m xs h =
       subst (λ v. IsTour v (reversed_places k m xs)) (sym l) (IsTour-reversed_places (length xs) k m xs h.2),
     )
 
--- the length of the other side
+-- the number of positions of the other side
 other_side : (n m pa pb pc pd : ℕ) → pa < n → pc < n → pa ≢ pc → IsAfter n pa pb → IsAfter n pc pd →
     PathLength n m pb pc → PathLength n (n - m) pd pa
 other_side n m pa pb pc pd la lc ne ab cd e =
     ⊎_elim (λ (less : pa < pd). inr (omega arith)) (λ (le : pd ≤ pa). inl (omega arith)) (cases_lt pa pd)
 
--- the other side: the path from d to a has the places that are left
+-- the effect of reversing the other side, the path from d to a at the remaining positions
 pub flip_outer : (order place : List ℕ) (a b c d m pb pc pd : ℕ) → IsTour (length order) order → IsInverse order place →
     IsCity (length order) a → IsCity (length order) c → a ≢ c → b ≡ next_city order a → d ≡ next_city order c →
     pb ≡ get_or place (b - 1) 0 → pc ≡ get_or place (c - 1) 0 → pd ≡ get_or place (d - 1) 0 →
@@ -210,7 +210,7 @@ flip_outer order place a b c d m pb pc pd tour inverse ca cc' ne eb ed epb epc e
     let h = flip_inner order place c d a b (n - m) pd pa tour inverse cc' ca (λ e. ne (sym e)) ed eb epd refl outer in
     ReplacesSteps-turn a b c d order (reversed_places pd (n - m) order) h.2
 
--- what stands beside the k-th place
+-- the cities after and before position k
 pub next_city_stored : (order : List ℕ) (k x c : ℕ) → IsTour (length order) order → k < length order →
     get_or order k 0 ≡ c →
     ((k + 1 < length order) × (x ≡ get_or order (k + 1) 0)) ⊎ ((k + 1 ≡ length order) × (x ≡ get_or order 0 0)) →
@@ -240,7 +240,7 @@ prev_city_stored order k x c tour lt e h =
     ∙ ap (λ v. prev_city order (get_or order v 0)) (sym z.0) ∙ ap (prev_city order) e)
     h
 
--- the same sides, read backward
+-- the sides are the same for a tour read backward
 pub IsShorterSide-backward : (xs : List ℕ) (n a b c d : ℕ) → IsShorterSide xs n d c b a → IsShorterSide xs n a b c d
 IsShorterSide-backward xs n a b c d h = λ front back pf pb g.
     let e : reverse (reverse front ++ reverse back) ≡ back ++ front = simp (reverse-append, reverse-reverse) in

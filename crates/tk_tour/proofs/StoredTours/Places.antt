@@ -1,4 +1,4 @@
--- Places counted modulo the length: a list begun at its k-th place, and the reversal of places there.
+-- Positions modulo the length: a list that begins at another position, and the reversal of positions from there on.
 use Rattle.std.proofs.Common.{◌≡◌, ◌≢◌, ℕ, ◌+◌, ◌-◌, ◌<◌, ◌≤◌, suc, zero, ⊎_elim, inl, List, [], ◌∷◌, ◌++◌, length}
 use Rattle.std.proofs.Common.{take, drop, set, refl, sym, ap, ◌∙◌, arith, get_or}
 use Rattle.std.specs.Prelude.{reverse}
@@ -21,7 +21,7 @@ pub IsRotation-begun_at : (k : ℕ) (xs : List ℕ) → IsRotation xs (begun_at 
 IsRotation-begun_at k xs =
     record { front = take k xs; back = drop k xs; before = sym (take-append-drop k xs); after = refl }
 
--- begun at k, and then at the place where it began before
+-- rotating a list to begin at k, and then to begin where it began before, restores it
 pub begun_at-begun_at : (k : ℕ) (xs : List ℕ) → begun_at (length xs - k) (begun_at k xs) ≡ xs
 begun_at-begun_at k xs =
     rw (
@@ -57,7 +57,7 @@ pub reversed_places-from : (k m : ℕ) (xs ys : List ℕ) → k ≤ length xs �
 reversed_places-from k m xs ys le l e =
     sym (begun_at-begun_at k ys) ∙ ap (λ v. begun_at (v - k) (begun_at k ys)) l ∙ ap (λ v. begun_at (length xs - k) v) e
 
--- reversed twice, the same places stand as they stood
+-- reversing the same positions twice restores the list
 pub reversed_places-twice : (k m : ℕ) (xs : List ℕ) → k ≤ length xs → m ≤ length xs →
     reversed_places k m (reversed_places k m xs) ≡ xs
 reversed_places-twice k m xs le lm =
@@ -74,7 +74,7 @@ pub reversed_places-undone : (k m : ℕ) (old new : List ℕ) → new ≡ revers
     m ≤ length old → reversed_places k m new ≡ old
 reversed_places-undone k m old new e le lm = ap (reversed_places k m) e ∙ reversed_places-twice k m old le lm
 
--- p is the place of the i-th entry of a list of n that is begun at f
+-- p is the position, in a list of n, of entry i of the rotation that begins at position f
 abbrev pub AtPlace : ℕ → ℕ → ℕ → ℕ → Type 0
 AtPlace n f i p = (f + i < n → p ≡ f + i) × (n ≤ f + i → p + n ≡ f + i)
 
@@ -113,7 +113,7 @@ begun_at-set xs f i p y le lt h =
     ∙ ap (λ v. drop f xs ++ set (take f xs) v y) e))
     (cases_lt (f + i) (length xs))
 
--- a reversal of the first m places of xs, after t exchanges
+-- ys is xs after t swaps of the reversal of its first m positions
 pub record MirroredTo (t m : ℕ) (xs ys : List ℕ) : Type 0 where
   pub same_length : length ys ≡ length xs
   pub front : (k : ℕ) → k < t → get_or ys k 0 ≡ get_or xs (m - 1 - k) 0
@@ -177,7 +177,7 @@ MirroredTo-all t m xs ys h low high le =
     ∙ ap (λ v. get_or xs v 0) (omega arith)))
     (cases_lt k m))
 
--- a path by its two ends
+-- a list with these two ends is a path
 pub IsPath-from_ends : (from to : ℕ) (xs : List ℕ) → 0 < length xs → get_or xs 0 0 ≡ from →
     get_or xs (length xs - 1) 0 ≡ to → IsPath from xs to
 IsPath-from_ends from to [] lt e f = absurd (omega arith)
@@ -193,7 +193,7 @@ SidesAre xs f m a b c d =
     (front back : List ℕ) → IsPath d front a → IsPath b back c → SameCycle xs (front ++ back) →
     (length front ≡ f) × (length back ≡ m)
 
--- the reversal of the path from b to c, which stands at m places from i on, and how many cities the two sides have
+-- the effect of reversing the path from b to c, at m positions from i on, and the number of cities on each side
 pub path_reversed : (xs : List ℕ) (i m a b c d : ℕ) → HoldsOnce xs → 0 < m → m < length xs →
     get_or (begun_at i xs) 0 0 ≡ b → get_or (begun_at i xs) (m - 1) 0 ≡ c → get_or (begun_at i xs) m 0 ≡ d →
     get_or (begun_at i xs) (length xs - 1) 0 ≡ a →

@@ -1,4 +1,4 @@
--- A tour has one printed form.
+-- A tour has only one canonical form.
 use Rattle.std.proofs.Common.{◌≡◌, ℕ, ◌<◌, ◌≤◌, ⊎_elim, List, [], ◌∷◌, ◌++◌, length, refl, sym, ap, ◌∙◌, arith}
 use Rattle.std.proofs.Common.{get_or}
 use Rattle.std.specs.Prelude.{reverse}
@@ -17,14 +17,14 @@ length-cycle : (xs ys : List ℕ) → SameCycle xs ys → length ys ≡ length x
 length-cycle xs ys h =
     ⊎_elim (λ f. length-rotation xs ys f) (λ f. sym (length-reverse ys) ∙ length-rotation xs (reverse ys) f) h
 
--- a list of two or more, from its first two entries
+-- a list of at least two entries begins with its first two
 first_two : (xs : List ℕ) (a b : ℕ) → 2 ≤ length xs → get_or xs 0 0 ≡ a → get_or xs 1 0 ≡ b →
     (rest : List ℕ) × (xs ≡ a ∷ (b ∷ rest))
 first_two [] a b big e f = absurd (omega arith)
 first_two (x ∷ []) a b big e f = absurd (omega arith)
 first_two (x ∷ (y ∷ xs)) a b big e f = (xs, ap (λ v. v ∷ (y ∷ xs)) e ∙ ap (λ v. a ∷ (v ∷ xs)) f)
 
--- where the way on and the way back from a both go to b, the cycle has no other city
+-- if b comes both after a and before it, the cycle has no other city
 ends_alike : (a b : ℕ) (r t : List ℕ) → HoldsOnce (a ∷ (reverse t ++ b ∷ [])) →
     a ∷ (b ∷ r) ≡ a ∷ (reverse t ++ b ∷ []) → a ∷ (b ∷ r) ≡ a ∷ (b ∷ t)
 ends_alike a b r [] once e = e

@@ -1,4 +1,4 @@
--- Cities that stand in a new order, and the place array that is told their places anew, one after another.
+-- Cities in a new order, and the array of positions, to which their new positions are written one after another.
 use Rattle.std.proofs.Common.{◌≡◌, ◌≢◌, ℕ, ◌+◌, ◌-◌, ◌<◌, ◌≤◌, ◌⊎◌, ⊎_elim, inl, inr, List, length, set, sym, ap, ◌∙◌}
 use Rattle.std.proofs.Common.{arith, get_or}
 use Rattle.std.proofs.lemmas.List.{length-set, get_or-set_same, get_or-set_other}
@@ -7,14 +7,14 @@ use Rattle.tk_tour.specs.Reversal.{IsInverse}
 use Rattle.tk_tour.specs.Tour.{IsTour}
 use Rattle.tk_tour.proofs.Tours.{HoldsOnce-tour, city_in_range, places_differ}
 
--- the places before k and those from `last` on are told; each city stands once
+-- the positions before k and those from `last` on have been written; each city occurs once
 pub record Renumbering (order place : List ℕ) (k last : ℕ) : Type 0 where
   pub size : length place ≡ length order
   pub cities : (i : ℕ) → i < length order → (0 < get_or order i 0) × (get_or order i 0 ≤ length order)
   pub apart : (i j : ℕ) → i < length order → j < length order → get_or order i 0 ≡ get_or order j 0 → i ≡ j
   pub told : (i : ℕ) → i < length order → (i < k) ⊎ (last ≤ i) → get_or place (get_or order i 0 - 1) 0 ≡ i
 
--- no city of a tour is told its place yet
+-- no position of a tour has been written yet
 pub Renumbering-none : (xs place : List ℕ) → IsTour (length xs) xs → length place ≡ length xs →
     Renumbering xs place 0 (length xs)
 Renumbering-none xs place tour l =
@@ -51,7 +51,7 @@ Renumbering-more order place k last h lt =
           (cases_eq i k);
     }
 
--- all are told
+-- all positions have been written
 pub Renumbering-all : (order place : List ℕ) (k last : ℕ) → Renumbering order place k last → last ≤ k →
     IsInverse order place
 Renumbering-all order place k last h le = (

@@ -1,4 +1,4 @@
--- One exchange of a reversal, on the order and the place array.
+-- One swap of a reversal, in the order and in the array of positions.
 use Rattle.std.proofs.Common.{◌≡◌, ◌≢◌, ℕ, ◌+◌, ◌-◌, ◌<◌, ◌≤◌, ◌/◌, ◌⊎◌, ⊎_elim, inl, inr, List, length, set, refl, sym}
 use Rattle.std.proofs.Common.{ap, ◌∙◌, arith, get_or}
 use Rattle.std.proofs.lemmas.List.{length-set, get_or-set_same, get_or-set_other}
@@ -56,14 +56,14 @@ IsInverse-exchange order place i j x y h li lj ne ex ey =
     (cases_eq k j) in
     (lp ∙ sym lo, λ k lk. all k (omega (arith, lo)))
 
--- after t exchanges of the reversal of `count` places from `first` on
+-- `order` is `start` after t swaps of the reversal of `count` positions from `first` on
 pub record Mirroring (n first count t low high : ℕ) (start order : List ℕ) : Type 0 where
   pub lengths : (length start ≡ n) × (length order ≡ n)
   pub low_at : (low < n) × AtPlace n first t low
   pub high_at : (high < n) × AtPlace n first (count - t) high
   pub mirrored : MirroredTo t count (begun_at first start) (begun_at first order)
 
--- which two places are exchanged next
+-- the two positions that are swapped next are distinct and in range
 pub record NextTwo (n low high : ℕ) : Type 0 where
   pub low_in : low < n
   pub high_in : high < n
@@ -79,16 +79,16 @@ place_cases n f i p h =
 pub at_place : (n f i p : ℕ) → PlaceCases n f i p → AtPlace n f i p
 at_place n f i p h = omega arith
 
--- two places modulo n are equal only for the same entry
+-- different entries have different positions modulo n
 pub places_apart : (n f i j p q : ℕ) → i < n → j < n → AtPlace n f i p → AtPlace n f j q → i ≢ j → p ≢ q
 places_apart n f i j p q li lj h k ne = omega (arith, place_cases n f i p h, place_cases n f j q k)
 
--- the place after, modulo n
+-- the position of the next entry, modulo n
 pub at_next : (n f i p q : ℕ) → f < n → i < n → AtPlace n f i p → ((p + 1 ≡ n) × (q ≡ 0))
     ⊎ ((p + 1 < n) × (q ≡ p + 1)) → AtPlace n f (i + 1) q
 at_next n f i p q lf li h cases = omega (arith, place_cases n f i p h)
 
--- the place before, modulo n
+-- the position of the previous entry, modulo n
 pub at_previous : (n f i j p q : ℕ) → i ≡ j + 1 → f < n → i ≤ n → AtPlace n f i p → ((p ≡ 0) × (q + 1 ≡ n))
     ⊎ ((0 < p) × (q + 1 ≡ p)) → AtPlace n f j q
 at_previous n f i j p q e lf li h cases = omega (arith, place_cases n f i p h)
@@ -147,7 +147,7 @@ Mirroring-all n first count t low high start order h lf lc e =
     (MirroredTo-all t count (begun_at first start) (begun_at first order) h.mirrored (omega arith) (omega arith)
     (omega (arith, length-begun_at first start, h.lengths.0)))
 
--- the same, where the place array still tells where each city of the order stands
+-- like `Mirroring`, with an array of the positions of the cities
 pub record Reversing (n first count t low high : ℕ) (start order place : List ℕ) : Type 0 where
   pub mirroring : Mirroring n first count t low high start order
   pub inverse : IsInverse order place

@@ -1,4 +1,4 @@
--- The two sides of a cut, by the places of their ends; what a flip does that reverses the shorter one.
+-- The two sides of a cut, from the positions of their ends, and the effect of a flip that reverses the shorter one.
 use Rattle.std.proofs.Common.{◌≡◌, ℕ, ◌+◌, ◌-◌, ◌/◌, ◌<◌, ◌≤◌, ⊎_elim, suc, zero, List, [], ◌∷◌, ◌++◌, length}
 use Rattle.std.proofs.Common.{refl, sym, ap, ◌∙◌, arith, get_or}
 use Rattle.std.proofs.lemmas.Bool.{cases_lt}
@@ -15,7 +15,7 @@ use Rattle.tk_tour.proofs.StoredTours.Flips.{IsShorterSide-backward, ReplacesSte
 use Rattle.tk_tour.proofs.StoredTours.Flips.{flip_inner, flip_outer, next_city-in, place_is}
 use Rattle.tk_tour.proofs.StoredTours.Places.{SidesAre, length-reversed_places, reversed_places-undone}
 
--- the places of the cities 1 to m
+-- the positions of the cities 1 to m
 places_to : ℕ → List ℕ → List ℕ
 places_to zero xs = []
 places_to (suc m) xs = places_to m xs ++ place_of (suc m) xs ∷ []
@@ -39,7 +39,7 @@ get_or-places_to (suc m) k xs lt =
     ∙ ap (λ u. place_of (suc u) xs) (sym e))
     (cases_lt k m)
 
--- a tour has a place array
+-- each tour has an array of the positions of its cities
 pub places_exist : (xs : List ℕ) → IsTour (length xs) xs → (place : List ℕ) × IsInverse xs place
 places_exist xs tour = (
   places_to (length xs) xs,
@@ -57,14 +57,14 @@ places_exist xs tour = (
   ),
 )
 
--- the cities after two others
+-- b and d are cities of the tour
 pub cities_after : (cities : List ℕ) (a b c d : ℕ) → IsTour (length cities) cities → AreForward cities a b c d →
     IsCity (length cities) b × IsCity (length cities) d
 cities_after cities a b c d tour f =
     let p = places_exist cities tour in
     (rw f.b_after (next_city-in cities p.0 a tour p.1 f.a_in), rw f.d_after (next_city-in cities p.0 c tour p.1 f.c_in))
 
--- the places from b to c, or those from d to a, if there are no more of them than others
+-- of the sides from b to c and from d to a, the one with at most half of the positions is the shorter side
 module _ (cities : List ℕ) (n a b c d m pb pc : ℕ) (tour : IsTour (length cities) cities) (is_n : n ≡ length cities)
     (f : AreForward cities a b c d) (lb : pb < length cities) (atb : get_or cities pb 0 ≡ b) (lc : pc < length cities)
     (atc : get_or cities pc 0 ≡ c) (path : PathLength n m pb pc) where
@@ -105,7 +105,7 @@ module _ (cities : List ℕ) (n a b c d m pb pc : ℕ) (tour : IsTour (length ci
     shorter = omega (arith, is_n, le, inner.1);
   }
 
--- which way the steps run, where they do not run ahead
+-- if the edges do not run forward, they run forward with their ends exchanged
 pub AreForward-backward : (cities : List ℕ) (a b c d : ℕ) → IsTour (length cities) cities → CanFlip cities a b c d →
     (b ≡ next_city cities a → d ≡ next_city cities c → ⊥) → AreForward cities d c b a
 AreForward-backward cities a b c d tour h not_ahead =
@@ -113,7 +113,7 @@ AreForward-backward cities a b c d tour h not_ahead =
     let k = only_backward cities a b c d h not_ahead in
     backward cities p.0 a b c d tour p.1 h.a_in h.c_in h.apart k.0 k.1
 
--- the same sides, read backward
+-- the sides are the same for a tour read backward
 pub TurnsShorterSide-backward : (cities : List ℕ) (first count a b c d : ℕ) →
     TurnsShorterSide cities first count d c b a → TurnsShorterSide cities first count a b c d
 TurnsShorterSide-backward cities first count a b c d h = record {
@@ -123,7 +123,7 @@ TurnsShorterSide-backward cities first count a b c d h = record {
   shorter = h.shorter;
 }
 
--- what a flip promises that reverses `count` places from the first on, from 0
+-- the guarantees of a flip that reverses `count` positions from `first` on, counted from 0
 pub record IsFlipped (old new : List ℕ) (first count a b c d : ℕ) : Type 0 where
   pub steps : ReplacesSteps old new a b c d
   pub made : TwoOptMove old new a b c d

@@ -1,4 +1,4 @@
--- The places of a list from `first` on, up to `last`, in reverse order.
+-- The reversal of positions of a list that do not continue from its end to its beginning.
 use Rattle.std.proofs.Common.{◌≡◌, ℕ, ◌+◌, ◌-◌, ◌<◌, ◌≤◌, ◌⊎◌, ⊎_elim, inl, inr, List, ◌++◌, length, take, drop, refl}
 use Rattle.std.proofs.Common.{sym, ap, ◌∙◌, arith, get_or}
 use Rattle.std.specs.Prelude.{reverse}
@@ -10,7 +10,7 @@ use Rattle.tk_tour.specs.Reversal.{IsInverse, begun_at, reversed_front, reversed
 use Rattle.tk_tour.proofs.StoredTours.Places.{reversed_places-from}
 use Rattle.tk_tour.proofs.StoredTours.Renumbering.{Renumbering}
 
--- `count` places from `first` on in reverse order
+-- xs with `count` positions from `first` on reversed
 abbrev pub turned_within : ℕ → ℕ → List ℕ → List ℕ
 turned_within first count xs = take first xs ++ (reverse (take count (drop first xs)) ++ drop count (drop first xs))
 
@@ -18,7 +18,7 @@ pub length-turned_within : (first count : ℕ) (xs : List ℕ) → first + count
     length (turned_within first count xs) ≡ length xs
 length-turned_within first count xs le = simp (length-append, length-drop, length-reverse, length-take) (omega arith)
 
--- they do not run past the end
+-- it is the reversal modulo the length, since the positions do not continue past the end
 pub turned_within-is : (first count : ℕ) (xs : List ℕ) → first + count ≤ length xs →
     turned_within first count xs ≡ reversed_places first count xs
 turned_within-is first count xs le =
@@ -72,7 +72,7 @@ kept_at first count xs i le side =
     ∙ ap (λ v. get_or xs v 0) (omega arith))
     side
 
--- where that stood before which stands at i now
+-- the position before the reversal of the entry that is at i now
 record StoodAt (first count : ℕ) (xs : List ℕ) (i : ℕ) : Type 0 where
   pub place : ℕ
   pub within : place < length xs
@@ -102,7 +102,7 @@ stood_at first count xs i le lt =
     (cases_lt i (first + count)))
     (cases_lt i first)
 
--- the places outside are told, and each city stands once
+-- the positions outside have been written, and each city occurs once
 pub Renumbering-begin : (first count : ℕ) (xs place : List ℕ) → first + count ≤ length xs → IsInverse xs place →
     Renumbering (turned_within first count xs) place first (first + count)
 Renumbering-begin first count xs place le inverse =

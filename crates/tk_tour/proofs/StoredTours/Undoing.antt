@@ -1,4 +1,4 @@
--- One flip more or less in a journal.
+-- A journal with one more flip, or with one fewer.
 use Rattle.std.proofs.Common.{◌≡◌, ℕ, ◌+◌, ◌-◌, ◌*◌, ◌/◌, ◌<◌, ◌≤◌, Some, List, [], ◌∷◌, ◌++◌, length, refl, ap, ◌∙◌}
 use Rattle.std.proofs.Common.{⊎_elim, arith}
 use Rattle.std.proofs.lemmas.Bool.{cases_lt}
@@ -14,7 +14,7 @@ pub undone_push : (fs : List Flip) (f : Flip) (order : List ℕ) →
 undone_push [] f order = refl
 undone_push (g ∷ fs) f order = ap (λ v. reversed_places (g.first - 1) g.count v) (undone_push fs f order)
 
--- a flip that is recorded leaves what the journal goes back to
+-- recording a flip leaves the order before the flips unchanged
 pub undone_flip : (fs : List Flip) (f : Flip) (old new : List ℕ) → new ≡ reversed_places (f.first - 1) f.count old →
     f.first - 1 ≤ length old → f.count ≤ length old → undone (fs ++ f ∷ []) new ≡ undone fs old
 undone_flip fs f old new e l k =

@@ -1,4 +1,4 @@
-//! A tour as an array: the order of its cities and the place of each.
+//! A tour as an array: the order of its cities and the position of each.
 ghost use Rattle.std.specs.Prelude.{◌≡◌, ◌≤◌, ◌<◌, ◌+◌, ◌-◌, ◌*◌, ◌/◌, ◌^◌, ℕ, List, length};
 ghost use Rattle.tk_distance.specs.Cities.{IsCity};
 ghost use Rattle.tk_tour.specs.Tour.{IsSizedTour};
@@ -15,7 +15,7 @@ use crate::verdict::{Verdict, place_cities};
 use std::alloc::{AllocError, Global};
 use tk_problem::CITY_LIMIT;
 
-/// A tour of 2 to 100,000 cities, as the list of its cities and the place of each.
+/// A tour of 2 to 100,000 cities, as the list of its cities and the position of each.
 #[derive(Drop)]
 pub struct ArrayTour {
     order: Vec<u32>,
@@ -96,7 +96,7 @@ impl TourStore for ArrayTour {
         self.flips
     }
 
-    // the clauses of the trait, and which of two equally long sides it reverses
+    // the clauses of the trait, and `inner`: of two equally long sides, it reverses the inner one
     fn flip(&mut self, a: u32, b: u32, c: u32, d: u32) -> Flip
         requires { CanFlip (order_of self.old) a b c d }
         ensures made { TwoOptMove (order_of self.old) (order_of self.new) a b c d }
@@ -178,11 +178,11 @@ impl ArrayTour {
     ghost use Rattle.tk_tour.specs.Fault.{HasTourFault};
     ghost use Rattle.tk_tour.specs.Printed.{IsPrintedForm};
 
-    /// A tour that stands as the list does, with every count at 0.
+    /// A tour in the order of the list, with all counters at 0.
     ///
     /// # Errors
-    /// `WrongCount` for fewer than 2 cities or more than 100,000, else the first fault of the list, place by place:
-    /// `OutOfRange` before `RepeatedCity`. `NoMemory` where there is no memory for it.
+    /// `WrongCount` for fewer than 2 cities or more than 100,000; then `NoMemory` if memory runs out; then the first
+    /// fault of the list, position by position, at each of them `OutOfRange` before `RepeatedCity`.
     pub fn from_list(alloc: Global, cities: &[u32]) -> Result<ArrayTour, TourFault>
         ensures tour { OnOk result (IsSizedTour cities.now) }
         ensures order { IfOk result (λ t. order_of t ≡ cities.now) }
@@ -215,7 +215,7 @@ impl ArrayTour {
         }
     }
 
-    // Reverses `count` places from `first` on, from 0.
+    // Reverses `count` positions from `first` on, counted from 0 and modulo the number of cities.
     fn reverse(&mut self, first: usize, count: usize)
         requires first { first < length self.old.order.items }
         requires count { count ≤ length self.old.order.items }
@@ -226,7 +226,8 @@ impl ArrayTour {
         reverse_places(&mut self.order, &mut self.place, first, count);
     }
 
-    /// Reverses the places of a flip again. Its swaps have a count of their own.
+    /// Reverses the positions of a flip again, which undoes it if it was the last one. The swaps are counted apart from
+    /// those of flips.
     pub fn undo(&mut self, flip: &Flip)
         requires first { IsCity (length (order_of self.old)) flip.now.first }
         requires count { flip.now.count ≤ length (order_of self.old) }
@@ -246,21 +247,21 @@ impl ArrayTour {
         self.order.as_slice()
     }
 
-    /// How many swaps undid flips.
+    /// The number of swaps counted for undone flips.
     pub fn undo_swaps(&self) -> u64
         ensures { result ≡ undo_swaps_of self.now }
     {
         self.undo_swaps
     }
 
-    /// How many cities were copied into this tour.
+    /// The number of cities that were copied into the tour.
     pub fn copied(&self) -> u64
         ensures { result ≡ copied_of self.now }
     {
         self.copied
     }
 
-    /// Takes the order of another tour of as many cities.
+    /// Takes over the order of another tour with the same number of cities.
     pub fn copy_from(&mut self, other: &ArrayTour)
         requires { length (order_of self.old) ≡ length (order_of other.now) }
         ensures order { order_of self.new ≡ order_of other.now }
@@ -272,10 +273,10 @@ impl ArrayTour {
         self.copied = self.copied.saturating_add(other.order.len() as u64);
     }
 
-    /// The printed form: the same cycle from city 1 on, towards the smaller of its two neighbours.
+    /// The canonical form of the cycle: it begins with city 1 and the smaller of its two neighbours.
     ///
     /// # Errors
-    /// `AllocError` where there is no memory for the list.
+    /// `AllocError` if memory runs out.
     pub fn canonical(&self, alloc: Global) -> Result<Vec<u32>, AllocError>
         ensures printed { IfOk result (λ cities. IsPrintedForm (order_of self.now) cities.items) }
         ensures only { IfOk result (λ cities. (list : List ℕ) → IsPrintedForm (order_of self.now) list

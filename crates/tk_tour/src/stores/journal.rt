@@ -1,4 +1,4 @@
-//! A tour that can go back to where it was settled.
+//! A tour that can return to the order in which it was settled.
 ghost use Rattle.std.specs.Prelude.{◌≡◌, ◌≤◌, ◌<◌, ◌+◌, ◌^◌, ◌↔◌, [], IfOk, ◌++◌, ◌∷◌, IsTrue, true, false, length};
 ghost use Rattle.std.specs.Prelude.{vec_len};
 ghost use Rattle.std.specs.Vec.{vec_capacity};
@@ -11,7 +11,7 @@ use crate::stores::array::ArrayTour;
 use crate::undo::UndoStore;
 use std::alloc::{AllocError, Global};
 
-// Records the flip that follows `flips` others, where there is room for it.
+// Records the flip that follows `flips` others, if there is room for it.
 fn remember(journal: &mut Vec<Flip>, slots: u32, flips: u64, flip: Flip)
     requires room { slots ≤ vec_capacity journal.old }
     requires within { vec_len journal.old ≤ slots }
@@ -27,7 +27,7 @@ fn remember(journal: &mut Vec<Flip>, slots: u32, flips: u64, flip: Flip)
     }
 }
 
-/// A tour that remembers its last flips, so that they can be undone.
+/// A tour with a journal of its flips since it was last settled, so that they can be undone.
 #[derive(Drop)]
 pub struct JournalTour<S: UndoStore> {
     tour: S,
@@ -106,10 +106,10 @@ impl<S: UndoStore> JournalTour<S> {
     ghost use Rattle.tk_tour.specs.JournalTours.{SameFlips, slots_of, flips_since, IsLost, settled_order};
     ghost use Rattle.tk_tour.specs.JournalTours.{swaps_to_rewind};
 
-    /// A journal with room for `slots` flips; every count begins at 0, and the order is settled.
+    /// The tour, settled, with all counters at 0 and with a journal that has room for `slots` flips.
     ///
     /// # Errors
-    /// `AllocError` where there is no memory for the slots; the tour is given up then.
+    /// `AllocError` if memory runs out; the tour is dropped then.
     pub fn new(alloc: Global, tour: S, slots: u32) -> Result<JournalTour<S>, AllocError>
         ensures order { IfOk result (λ t. cities_of t ≡ S.cities tour) }
         ensures settled { IfOk result (λ t. settled_order t ≡ S.cities tour) }
@@ -130,7 +130,7 @@ impl<S: UndoStore> JournalTour<S> {
         })
     }
 
-    /// The tour as it stands. At most the swaps of its flips were made again to undo them.
+    /// The tour in its current order. Its swaps counted for undone flips are at most those counted for flips.
     pub fn tour(&self) -> &S
         ensures tour { result.now ≡ tour_of self.now }
         ensures undo_swaps { S.undo_count result.now ≤ S.swap_count result.now }
@@ -138,14 +138,14 @@ impl<S: UndoStore> JournalTour<S> {
         &self.tour
     }
 
-    /// Whether a flip came that found no room.
+    /// Whether the journal has overflowed since the tour was last settled.
     pub fn lost(&self) -> bool
         ensures { IsTrue result ↔ IsLost self.now }
     {
         self.flips > self.slots as u64
     }
 
-    /// Makes the order as it stands the one that a rewind goes back to.
+    /// Makes the current order the one that `rewind` restores.
     pub fn settle(&mut self)
         ensures tour { tour_of self.new ≡ tour_of self.old }
         ensures settled { settled_order self.new ≡ cities_of self.old }
@@ -157,7 +157,8 @@ impl<S: UndoStore> JournalTour<S> {
         self.flips = 0;
     }
 
-    /// Undoes the flips since the last settle and answers true, unless one of them was lost.
+    /// Undoes the flips since the tour was last settled, and returns `true`. If the journal has overflowed since then,
+    /// changes nothing and returns `false`.
     pub fn rewind(&mut self) -> bool
         ensures lost { IsTrue result ↔ (flips_since self.old ≤ slots_of self.old) }
         ensures order { IsTrue result → cities_of self.new ≡ settled_order self.old }
@@ -181,7 +182,7 @@ impl<S: UndoStore> JournalTour<S> {
         true
     }
 
-    /// Takes the order of another tour of as many cities, and settles there.
+    /// Takes over the order of another tour with the same number of cities, and settles it.
     pub fn restore(&mut self, other: &ArrayTour)
         requires { length (cities_of self.old) ≡ length (order_of other.now) }
         ensures order { cities_of self.new ≡ order_of other.now }
@@ -195,7 +196,7 @@ impl<S: UndoStore> JournalTour<S> {
         self.take_order(other.order());
     }
 
-    /// Takes the order of a list of the same cities, and settles there.
+    /// Takes over the order of a list of the same cities, and settles it.
     pub fn take_order(&mut self, cities: &[u32])
         requires tour { IsSizedTour cities.now }
         requires size { length (cities_of self.old) ≡ length cities.now }

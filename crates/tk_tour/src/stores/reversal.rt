@@ -1,10 +1,10 @@
-//! The reversal of places.
+//! Reversals of the positions of an array tour.
 ghost use Rattle.std.specs.Prelude.{◌≡◌, ◌≤◌, ◌<◌, ◌-◌, length};
 ghost use Rattle.tk_problem.specs.declared.limits.TheConstants.{CITY_LIMIT};
 ghost use Rattle.tk_tour.specs.Reversal.{IsInverse, reversed_places};
 
-// Reverses `count` places from `first` on, modulo the length: those that go on from the end to the beginning by
-// `count / 2` exchanges of two cities.
+// Reverses `count` positions from `first` on, counted from 0 and modulo the length. Those that continue from the end to
+// the beginning are reversed by `count / 2` swaps of two cities.
 pub(crate) fn reverse_places(order: &mut [u32], place: &mut [u32], first: usize, count: usize)
     requires first_in { first < length order.old }
     requires count_in { count ≤ length order.old }
@@ -32,7 +32,7 @@ pub(crate) fn reverse_places(order: &mut [u32], place: &mut [u32], first: usize,
     }
 }
 
-// Reverses the places from `first` on, up to `last`.
+// Reverses the positions from `first` up to but not including `last`.
 fn reverse_within(order: &mut [u32], place: &mut [u32], first: usize, last: usize)
     requires from { first ≤ last }
     requires to { last ≤ length order.old }

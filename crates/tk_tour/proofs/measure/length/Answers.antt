@@ -7,7 +7,7 @@ use Rattle.tk_distance.specs.Cities.{IsCity}
 use Rattle.tk_tour.proofs.Lengths.{way_back-step, way_back-end, tour_length-limit}
 use Rattle.tk_tour.proofs.measure.length.Goals as goal
 
--- a city of the rest is a city of the list
+-- the cities after the first one are cities of the metric
 city_in : (n first k : ℕ) (cities others : List ℕ) → cities ≡ first ∷ others → All (IsCity n) cities →
     k < length others → IsCity n (get_or others k 0)
 city_in n first k cities others e h lt =

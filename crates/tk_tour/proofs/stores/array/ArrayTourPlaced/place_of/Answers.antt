@@ -4,7 +4,7 @@ use Rattle.tk_tour.proofs.Tours.{city_at_place}
 use Rattle.tk_tour.proofs.stores.array.ArrayTourPlaced.place_of.Goals as goal
 use Rattle.tk_tour.proofs.stores.array.ArrayTourPlaced.place_of.Goals.{After-index}
 
--- what is read is the city's place
+-- the value read is the position of the city
 is_read : (c : After-index) → c.index.result.now ≡ get_or c.args.self.now.place.items (c.args.c - 1) 0
 is_read c =
     get_or_read c.args.self.now.place.items (c.args.c - 1) c.index.result.now
