@@ -1,4 +1,4 @@
--- A run for a read past the end of a list.
+-- The segment that a read past the end of a list returns.
 use Rattle.std.proofs.Common.{false}
 use Rattle.tk_segments.specs.declared.run.Run.{Run}
 

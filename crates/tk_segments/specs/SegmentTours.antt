@@ -1,4 +1,4 @@
--- What callers see of a `SegmentTour`: the order of its cities and its counts.
+-- What callers see of a `SegmentTour`: the order of its cities, and its counters.
 use Rattle.std.specs.Prelude.{◌≡◌, ℕ, ◌+◌, ◌^◌, ◌<◌, ◌≤◌, List, length, refl}
 use Rattle.std.proofs.Common.{◌∙◌, arith}
 use Rattle.tk_tour.specs.Counters.{saturated}
@@ -8,12 +8,12 @@ use Rattle.tk_segments.specs.Writes.{changed}
 use Rattle.tk_segments.specs.WriteLaws.{changed-refl, changed-trans}
 use Rattle.tk_segments.specs.declared.tour.SegmentTour.{SegmentTour}
 
--- the cities in the order in which they are seen
+-- the cities in tour order
 abbrev pub seen_order : SegmentTour → List ℕ
 seen_order tour = list_of tour.seen
 
--- the swaps that its flips take in an array, those that undoing flips takes, its flips, the cities that were copied
--- into it, and how many places of its own array it has written
+-- the counters: the swaps that its flips take in an array, those that undo flips, the flips, the cities copied into it,
+-- and the positions of its own array that have been written
 abbrev pub seen_swaps : SegmentTour → ℕ
 seen_swaps tour = tour.swaps
 
@@ -29,18 +29,18 @@ seen_copied tour = tour.copied
 abbrev pub writes_of : SegmentTour → ℕ
 writes_of tour = tour.writes
 
--- its array, which is seen through segments
+-- its array, which is divided into segments
 abbrev pub seen_array : SegmentTour → List ℕ
 seen_array tour = array_of tour.seen
 
--- how many segments there are, and how many there may be
+-- the number of segments, and their maximum number
 abbrev pub segments_of : SegmentTour → ℕ
 segments_of tour = run_count_of tour.seen
 
 abbrev pub most_of : SegmentTour → ℕ
 most_of tour = room_of tour.seen + 2
 
--- how many places of its array it writes to reverse `count` places: two for each exchange if the reversal is short;
+-- how many array positions are written to reverse `count` positions: two for each swap if the reversal is short;
 -- otherwise none, or all if there is no room for two more segments
 abbrev pub write_cost : SegmentTour → ℕ → ℕ
 write_cost tour count = reversal_cost tour.seen count
@@ -54,7 +54,7 @@ seen_tally tour = record {
   copied = seen_copied tour;
 }
 
--- what flips alone do: each place of the array that has changed is counted, too
+-- the effect of flips only; each array position that has changed is counted as written, too
 pub record SeenFlips (old new : SegmentTour) : Type 0 where
   pub flipped : OnlyFlips (seen_tally old) (seen_tally new)
   pub most : most_of new ≡ most_of old
@@ -82,7 +82,7 @@ SeenFlips-trans r s t h k = record {
   );
 }
 
--- and nothing else is counted
+-- flips change neither the undone swaps nor the copied cities
 pub SeenFlips-kept : (old new : SegmentTour) → SeenFlips old new →
     (seen_undo_swaps new ≡ seen_undo_swaps old) × (seen_copied new ≡ seen_copied old)
 SeenFlips-kept old new h = (h.flipped.undo_swaps, h.flipped.copied)

@@ -1,11 +1,11 @@
--- At how many places two arrays differ.
+-- The number of positions at which two arrays differ.
 use Rattle.std.proofs.Common.{◌≡◌, ℕ, false, ◌+◌, ◌≤◌, suc, zero, ⊎_elim, List, [], ◌∷◌, length, set, refl, ap, arith}
 use Rattle.std.proofs.Common.{eqb, cond}
 use Rattle.std.proofs.lemmas.Bool.{eq-eqb}
 use Rattle.std.proofs.lemmas.Bool.Decides.{eqb_tells}
 use Rattle.tk_segments.specs.Writes.{changed}
 
--- whether two entries differ, as a number
+-- 1 if two entries differ, otherwise 0
 differs : ℕ → ℕ → ℕ
 differs x y = cond (eqb x y) 0 1
 
@@ -59,7 +59,7 @@ changed-le [] ys = omega arith
 changed-le (x ∷ xs) [] = omega arith
 changed-le (x ∷ xs) (y ∷ ys) = omega (arith, changed-cons x y xs ys, differs-le x y, changed-le xs ys)
 
--- one place more is written
+-- a write to one position
 pub changed-set : (xs ys : List ℕ) (k v : ℕ) → changed xs (set ys k v) ≤ changed xs ys + 1
 changed-set [] ys k v = omega arith
 changed-set (x ∷ xs) [] k v = omega arith

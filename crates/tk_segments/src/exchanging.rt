@@ -1,4 +1,4 @@
-//! A short reversal: cities change places, wherever they are seen.
+//! Short reversals: cities are swapped in the array, whatever segments they are in.
 ghost use Rattle.std.specs.Prelude.{◌≡◌, ◌≤◌, ◌<◌, ◌+◌, ◌-◌, ◌*◌, ◌/◌, length};
 ghost use Rattle.tk_problem.specs.declared.limits.TheConstants.{CITY_LIMIT};
 ghost use Rattle.tk_tour.specs.Reversal.{IsInverse, reversed_places};
@@ -9,7 +9,7 @@ ghost use Rattle.tk_segments.specs.Writes.{changed};
 use crate::run::Run;
 use crate::spots::{after, before, spot_at};
 
-// Where the places end that begin at `first`, modulo their number.
+// The position after the `count` positions from `first` on, modulo `size`.
 fn end_of(size: u32, first: u32, count: u32) -> u32
     requires size { size ≤ CITY_LIMIT }
     requires first_in { first < size }
@@ -25,8 +25,7 @@ fn end_of(size: u32, first: u32, count: u32) -> u32
     }
 }
 
-/// Reverses what is seen at `count` places from `first` on, modulo their number, by `count / 2` exchanges of two
-/// cities.
+/// Reverses `count` positions of the sequence from `first` on, modulo `size`, by `count / 2` swaps of two cities.
 pub fn exchange_seen(
     order: &mut [u32],
     place: &mut [u32],

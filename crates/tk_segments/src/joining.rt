@@ -1,4 +1,4 @@
-//! Runs that were parted are joined again.
+//! Segments that were split are joined again.
 ghost use Rattle.std.specs.Prelude.{◌≡◌, ◌≤◌, ◌<◌, ◌+◌, ◌*◌, ◌∷◌, ◌++◌, ℕ, List, length, take, drop, vec_len};
 ghost use Rattle.std.specs.List.{All};
 ghost use Rattle.std.specs.Option.{IfSome};
@@ -12,8 +12,8 @@ use crate::naming::note_run;
 use crate::run::{Run, joined};
 use crate::turning::begin_run;
 
-/// The index of the first of two runs, one after another on the cycle, that are the parts of one run, where the part of
-/// the higher places has the newest name.
+/// The index of the first of two segments that can be joined, or `None`. They are neighbours on the cycle and the two
+/// parts of one segment, and the part with the higher array positions has the highest id.
 pub fn parted_at(runs: &[Run], home: &[u32], size: u32) -> Option<usize>
     requires some { 0 < length runs.now }
     requires many { length runs.now ≤ CITY_LIMIT }
@@ -38,7 +38,7 @@ pub fn parted_at(runs: &[Run], home: &[u32], size: u32) -> Option<usize>
     Some(k)
 }
 
-// Puts a run in the place of the k-th one and the one after it.
+// Replaces the k-th segment and the next one by one segment.
 fn put_joined(runs: &mut Vec<Run>, k: usize, run: Run)
     requires index { k + 1 < vec_len runs.old }
     ensures items { runs.new.items ≡ take k runs.old.items ++ run ∷ drop (k + 2) runs.old.items }
@@ -49,7 +49,8 @@ fn put_joined(runs: &mut Vec<Run>, k: usize, run: Run)
     runs.remove(k + 1);
 }
 
-// Joins the k-th run and the one after it, where they are the parts of one run, and one of them has the newest name.
+// Joins the k-th segment and the next one if they are the two parts of one segment and one of them has the highest id.
+// Otherwise, does nothing.
 fn join_parts(runs: &mut Vec<Run>, table: &mut [u32], size: u32, k: usize)
     requires size { size ≤ CITY_LIMIT }
     requires many { vec_len runs.old ≤ CITY_LIMIT }
@@ -74,9 +75,8 @@ fn join_parts(runs: &mut Vec<Run>, table: &mut [u32], size: u32, k: usize)
     note_run(table, run);
 }
 
-/// Joins the k-th run and the one after it on the cycle, where they are the parts of one run, and one of them has the
-/// newest name. What was seen at the first result is then seen first, and the first runs, as many as the second, have
-/// the names that they had.
+/// Joins the k-th segment and the next one on the cycle, under the condition of `join_parts`. Returns the old position
+/// in the sequence of what is first in it now, and how many of the first segments have kept their ids.
 pub fn join_runs(runs: &mut Vec<Run>, table: &mut [u32], size: u32, k: usize) -> (u32, usize)
     requires size { size ≤ CITY_LIMIT }
     requires many { (1 < vec_len runs.old) × (vec_len runs.old ≤ CITY_LIMIT) }

@@ -1,4 +1,8 @@
-//! A tour that is seen through runs of its array: what a long reversal turns round are a few runs, and no cities.
+//! A tour in an array that is divided into segments. A long reversal reverses a few segments, and does not move cities.
+//!
+//! Each segment reads its part of the array forwards or backwards. The sequence consists of these parts, one after
+//! another; the tour is a rotation of it. In the names of this crate, a segment is a run, the sequence is what is seen
+//! or shown, and the id of a segment is its name.
 #![tactic(auto)]
 
 mod exchanging;

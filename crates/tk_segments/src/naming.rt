@@ -1,14 +1,14 @@
-//! Where the runs of names stand, and by which names runs are looked for.
+//! The tables by which segments are found: the index of each id, and an id for each bucket of array positions.
 ghost use Rattle.std.specs.Prelude.{◌≡◌, ◌≤◌, ◌*◌, length};
 ghost use Rattle.tk_problem.specs.declared.limits.TheConstants.{CITY_LIMIT};
 ghost use Rattle.tk_segments.specs.Runs.{AreNamed, AreNamedTo, HaveNames, IsNoted};
 
 use crate::run::Run;
 
-// The places of a bucket, for which the table of names has one run.
+// The number of array positions in a bucket, for which the table has one id.
 const BUCKET: u32 = 32;
 
-/// The buckets that begin in the run name it.
+/// Notes the id of the segment in the table, for each bucket that begins in the segment.
 pub fn note_run(table: &mut [u32], run: Run)
     requires order { run.low ≤ run.high }
     requires fits { run.high ≤ 32 * length table.old }
@@ -22,7 +22,7 @@ pub fn note_run(table: &mut [u32], run: Run)
     }
 }
 
-/// From the k-th run on, each is told where it stands.
+/// Updates the index of each id in `home`, for the segments from the k-th on.
 pub fn name_runs(runs: &[Run], home: &mut [u32], k: usize)
     requires many { length runs.now ≤ length home.old }
     requires small { length runs.now ≤ CITY_LIMIT }

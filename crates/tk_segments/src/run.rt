@@ -1,11 +1,12 @@
-//! A run: a stretch of an array, seen forwards or backwards.
+//! A segment: a range of array positions, read forwards or backwards.
 ghost use Rattle.std.specs.Prelude.{◌≡◌, ◌≤◌, ◌<◌, ◌+◌, true};
 ghost use Rattle.std.specs.Option.{IfSome};
 ghost use Rattle.tk_problem.specs.declared.limits.TheConstants.{CITY_LIMIT};
 ghost use Rattle.tk_segments.specs.Runs.{AreParts, AreSeenParts, shown_place, run_size};
 
-/// The places from `low` up to `high` of an array, which are seen from `start` on, forwards or backwards. Each run has
-/// a name of its own, and knows the name of the run of the place `high`.
+/// The array positions from `low` to `high - 1`, read forwards, or backwards if `back`. They are the positions of the
+/// sequence from `start` on. `id` differs from the ids of all other segments, and `next` is the id of the segment that
+/// contains array position `high`, if there is one.
 #[derive(Clone, Copy, Drop)]
 pub struct Run {
     pub low: u32,
@@ -16,7 +17,7 @@ pub struct Run {
     pub back: bool,
 }
 
-/// The place that is seen `d` after the first one of the run.
+/// The array position that is `d` positions after the first one, as the segment reads them.
 pub fn place_in(run: Run, d: u32) -> u32
     requires within { run.low < run.high }
     requires inside { d < run_size run }
@@ -30,7 +31,7 @@ pub fn place_in(run: Run, d: u32) -> u32
     }
 }
 
-/// How far after the first one of the run a place is seen.
+/// How many positions an array position is after the first one, as the segment reads them.
 pub fn offset_in(run: Run, place: u32) -> u32
     requires inside { (run.low ≤ place) × (place < run.high) }
     ensures inside { result < run_size run }
@@ -43,8 +44,8 @@ pub fn offset_in(run: Run, place: u32) -> u32
     }
 }
 
-/// The first and the second part of a run, where the second is seen `d` after the first. The part of the lower places
-/// keeps the name of the run, and the other takes `id`.
+/// Splits a segment into a first and a second part; the second begins `d` positions after the first. The part with the
+/// lower array positions keeps the id of the segment, and the other one gets `id`.
 pub fn parts_of(run: Run, d: u32, id: u32) -> (Run, Run)
     requires inside { (0 < d) × (d < run_size run) }
     requires fits { run.start + d ≤ CITY_LIMIT }
@@ -83,15 +84,15 @@ pub fn parts_of(run: Run, d: u32, id: u32) -> (Run, Run)
     )
 }
 
-// Whether these are the parts of one run, where the part of the higher places has the name `id`.
+// Whether these are the parts of one segment, and the part with the higher array positions has this id.
 fn are_parts(low: Run, high: Run, id: u32) -> bool
     ensures { result ≡ true → AreParts id low high }
 {
     low.back == high.back && low.high == high.low && low.next == id && high.id == id
 }
 
-/// The run of which these are the parts, where the second is seen after the first, and the part of the higher places
-/// has the name `id`: none where they are not.
+/// The segment whose first and second part these are, where the part with the higher array positions has this id.
+/// `None` if they are not such parts.
 pub fn joined(one: Run, two: Run, id: u32) -> Option<Run>
     requires within { (one.low < one.high) × (two.low < two.high) }
     ensures { IfSome result (λ run. two.start ≡ one.start + run_size one → AreSeenParts (run_size one) id run one two) }

@@ -1,4 +1,4 @@
-//! Runs in the order in which they are seen, and how the run of a place is found.
+//! The segments in the order of the sequence, and how the segment of an array position is found.
 ghost use Rattle.std.specs.Prelude.{◌≡◌, ◌≤◌, ◌<◌, ◌+◌, ◌-◌, ◌*◌, ℕ, List, IfOk, false, length, vec_len};
 ghost use Rattle.std.specs.Vec.{vec_capacity};
 ghost use Rattle.tk_problem.specs.declared.limits.TheConstants.{CITY_LIMIT};
@@ -12,7 +12,7 @@ use crate::spots::{Spot, after, before, beside, spot_at, spot_of};
 use crate::turning::{begin_seen, turn_rest, turn_seen};
 use std::alloc::{AllocError, Global};
 
-// One run of all places as they are.
+// One segment with all array positions, read forwards.
 fn whole(size: u32) -> Run
     ensures { (result.low ≡ 0) × (result.high ≡ size) × (result.start ≡ 0) × (result.id ≡ 0) × (result.next ≡ 0)
         × (result.back ≡ false) }
@@ -27,8 +27,8 @@ fn whole(size: u32) -> Run
     }
 }
 
-/// At most `most` runs of an array of `size` places, in the order in which they are seen. `home` has the index of each
-/// name, and `table` a name for each bucket of places.
+/// At most `most` segments of an array of `size` positions, in the order of the sequence. `home` has the index of each
+/// id. `table` has an id for each bucket of 32 array positions: that of the segment with the first of them.
 #[derive(Drop)]
 pub struct Runs {
     pub runs: Vec<Run>,
@@ -47,10 +47,10 @@ pub struct Runs {
 }
 
 impl Runs {
-    /// All places as they are.
+    /// One segment, which reads the whole array forwards.
     ///
     /// # Errors
-    /// `AllocError` where there is no memory for so many runs.
+    /// `AllocError` if memory runs out.
     pub fn new(alloc: Global, size: u32, most: u32) -> Result<Runs, AllocError>
         requires size { (0 < size) × (size ≤ CITY_LIMIT) }
         requires most { (0 < most) × (most ≤ CITY_LIMIT) }
@@ -71,7 +71,7 @@ impl Runs {
         })
     }
 
-    /// All places as they are again.
+    /// Makes it one segment again, which reads the whole array forwards.
     pub fn reset(&mut self)
         ensures shown { (order : List ℕ) → length order ≡ self.old.size → shown order self.new.runs.items ≡ order }
         ensures one { vec_len self.new.runs ≡ 1 }
@@ -83,7 +83,7 @@ impl Runs {
         self.table.fill(0);
     }
 
-    /// Where a place of the array is seen: the spot, and how many places are seen before it.
+    /// The spot of an array position, and its position in the sequence.
     pub fn spot_of(&self, place: u32) -> (Spot, u32)
         requires { place < self.now.size }
         ensures spot { IsSpot self.now.runs.items result.1 result.0 }
@@ -93,7 +93,7 @@ impl Runs {
         spot_of(&self.runs, &self.home, &self.table, self.size, place)
     }
 
-    /// What is seen at v.
+    /// The spot at position v of the sequence.
     pub fn spot_at(&self, v: u32) -> Spot
         requires { v < self.now.size }
         ensures { IsSpot self.now.runs.items v result }
@@ -101,7 +101,7 @@ impl Runs {
         spot_at(&self.runs, self.size, v)
     }
 
-    /// What is seen after a spot, on the cycle.
+    /// The spot after a spot, on the cycle.
     pub fn after(&self, spot: Spot) -> Spot
         requires spot { (v : ℕ) × (IsSpot self.now.runs.items v spot) }
         ensures { (v w : ℕ) → IsSpot self.now.runs.items v spot → IsAfterPlace self.now.size v w
@@ -110,7 +110,7 @@ impl Runs {
         after(&self.runs, self.size, spot)
     }
 
-    /// What is seen before a spot, on the cycle.
+    /// The spot before a spot, on the cycle.
     pub fn before(&self, spot: Spot) -> Spot
         requires spot { (v : ℕ) × (IsSpot self.now.runs.items v spot) }
         ensures { (v w : ℕ) → IsSpot self.now.runs.items w spot → IsAfterPlace self.now.size v w
@@ -119,7 +119,7 @@ impl Runs {
         before(&self.runs, self.size, spot)
     }
 
-    /// What is seen after a spot, and before it, on the cycle.
+    /// The spots after and before a spot, on the cycle.
     pub fn beside(&self, spot: Spot) -> (Spot, Spot)
         requires spot { (v : ℕ) × (IsSpot self.now.runs.items v spot) }
         ensures after { (v w : ℕ) → IsSpot self.now.runs.items v spot → IsAfterPlace self.now.size v w
@@ -130,7 +130,7 @@ impl Runs {
         beside(&self.runs, self.size, spot)
     }
 
-    /// What is seen from `first` on, up to `last`, is seen in reverse order.
+    /// Reverses the positions of the sequence from `first` to `last - 1`.
     pub fn turn(&mut self, first: u32, last: u32)
         requires range { (first < last) × (last ≤ self.old.size) }
         requires room { vec_len self.old.runs + 2 ≤ self.old.most }
@@ -143,7 +143,7 @@ impl Runs {
         name_runs(&self.runs, &mut self.home, k);
     }
 
-    /// What is seen at v is seen first, and then what is seen from `first` on, up to the end, in reverse order.
+    /// Rotates the sequence to begin at position v, and then reverses it from position `first` to the end.
     pub fn begin_and_turn(&mut self, v: u32, first: u32)
         requires v_in { v < self.old.size }
         requires range { first < self.old.size }
@@ -158,8 +158,8 @@ impl Runs {
         name_runs(&self.runs, &mut self.home, 0);
     }
 
-    /// Joins the run of the newest name to the one from which it was parted, if that is beside it again. What was seen
-    /// at the result is then seen first.
+    /// Joins the segment with the highest id to the one from which it was split, if they are neighbours on the cycle,
+    /// read in the same direction. Returns the old position in the sequence of what is first in it now.
     pub fn join(&mut self) -> u32
         ensures first { result < self.old.size }
         ensures shown { Shows self.old.size (begun_at result) self.old.runs.items self.new.runs.items }

@@ -1,4 +1,4 @@
-//! A tour as an array that is seen through runs.
+//! A tour in an array that is divided into segments.
 ghost use Rattle.std.specs.Prelude.{◌≡◌, ◌≤◌, ◌<◌, ◌+◌, ◌-◌, ◌*◌, ◌/◌, ℕ, length, slice_index, vec_len};
 ghost use Rattle.tk_distance.specs.Cities.{IsCity};
 ghost use Rattle.tk_tour.specs.Around.{AreAround};
@@ -14,8 +14,8 @@ use crate::spots::Spot;
 use crate::writing::write_seen;
 use tk_tour::{Around, Placed, place_each};
 
-/// The cities of a tour as an array that is seen through runs, begun at `begin`. A reversal of at most `short` places
-/// exchanges cities, a longer one turns runs round.
+/// The cities of a tour in an array that is divided into segments. The tour begins at position `begin` of the sequence.
+/// A reversal of at most `short` positions swaps cities, and a longer one reverses segments.
 #[derive(Drop)]
 pub struct SeenTour {
     order: Vec<u32>,
@@ -61,7 +61,7 @@ impl SeenTour {
     ghost use Rattle.tk_segments.specs.SeenTours.{IsReversed, SeesAt, array_of, list_of, room_cost, room_of};
     ghost use Rattle.tk_segments.specs.SeenTours.{run_count_of};
 
-    /// The tour stands as the list does.
+    /// A tour in the order of `order`.
     pub fn new(
         order: Vec<u32>,
         place: Vec<u32>,
@@ -88,14 +88,14 @@ impl SeenTour {
         }
     }
 
-    /// How many cities there are.
+    /// The number of cities.
     pub fn size(&self) -> u32
         ensures { result ≡ length (list_of self.now) }
     {
         self.order.len() as u32
     }
 
-    /// How many runs there are.
+    /// The number of segments.
     pub fn run_count(&self) -> usize
         ensures count { result ≡ run_count_of self.now }
         ensures few { result ≤ room_of self.now + 2 }
@@ -132,7 +132,7 @@ impl SeenTour {
         )
     }
 
-    /// The cities around c.
+    /// The three cities after c, and the three before it.
     pub fn around(&self, c: u32) -> Around
         requires { IsCity (length (list_of self.now)) c }
         ensures { AreAround (list_of self.now) c result }
@@ -148,7 +148,7 @@ impl SeenTour {
         }
     }
 
-    // Where a city is seen.
+    // The spot of a city.
     fn spot_of(&self, c: u32) -> Spot
         requires { IsCity (length (list_of self.now)) c }
         ensures { SeesAt self.now c result }
@@ -157,7 +157,7 @@ impl SeenTour {
         spot
     }
 
-    // Where the city after one is seen, and that city.
+    // The spot of the city after the one at this spot, and that city.
     fn after(&self, spot: Spot) -> (Spot, u32)
         requires { (c : ℕ) × SeesAt self.now c spot }
         ensures { (c : ℕ) → SeesAt self.now c spot → SeesAt self.now result.1 result.0
@@ -167,7 +167,7 @@ impl SeenTour {
         (after, self.order[after.place as usize])
     }
 
-    // Where the city before one is seen, and that city.
+    // The spot of the city before the one at this spot, and that city.
     fn before(&self, spot: Spot) -> (Spot, u32)
         requires { (c : ℕ) × SeesAt self.now c spot }
         ensures { (c : ℕ) → SeesAt self.now c spot → SeesAt self.now result.1 result.0
@@ -177,7 +177,7 @@ impl SeenTour {
         (before, self.order[before.place as usize])
     }
 
-    // Where the k-th place of the list, from 0, is seen.
+    // The position in the sequence of position k of the list, both counted from 0.
     fn seen_from(&self, k: u32) -> u32
         requires { k < length (list_of self.now) }
         ensures { IsPlaceFrom (length (list_of self.now)) self.now.begin k result }
@@ -190,7 +190,7 @@ impl SeenTour {
         }
     }
 
-    /// The city at the k-th place of the list, from 0.
+    /// The city at position k of the list, counted from 0.
     pub fn at(&self, k: u32) -> u32
         requires { k < length (list_of self.now) }
         ensures { result ≡ slice_index (list_of self.now) k }
@@ -198,7 +198,8 @@ impl SeenTour {
         self.order[self.runs.spot_at(self.seen_from(k)).place as usize]
     }
 
-    /// Reverses `count` places of the list from `first` on, from 0: how many places it writes.
+    /// Reverses `count` positions of the list, from position `first` (counted from 0) on, and returns the number of
+    /// array positions written.
     pub fn reverse(&mut self, first: u32, count: u32) -> u64
         requires first { first < length (list_of self.old) }
         requires count { 2 * count ≤ length (list_of self.old) }
@@ -213,8 +214,8 @@ impl SeenTour {
         written
     }
 
-    /// Reverses `count` places of the list from `first` on, from 0, and joins runs again that were parted for a
-    /// reversal of the same places: how many places it writes.
+    /// Reverses `count` positions of the list like `reverse`, and joins segments that were split for a reversal of the
+    /// same positions. Returns the number of array positions written.
     pub fn undo(&mut self, first: u32, count: u32) -> u64
         requires first { first < length (list_of self.old) }
         requires count { 2 * count ≤ length (list_of self.old) }
@@ -229,7 +230,8 @@ impl SeenTour {
         written
     }
 
-    // Joins two runs if they were one when the newest of them was made.
+    // Joins the segment with the highest id to the one from which it was split, if they are neighbours on the cycle,
+    // read in the same direction.
     fn join(&mut self)
         ensures list { list_of self.new ≡ list_of self.old }
         ensures runs { (1 ≤ run_count_of self.new) × (run_count_of self.new ≤ run_count_of self.old) }
@@ -244,7 +246,8 @@ impl SeenTour {
         };
     }
 
-    // Reverses what is seen at `count` places from `first` on, by exchanges of two cities: how many places it writes.
+    // Reverses `count` positions of the sequence from `first` on, by swaps of two cities, and returns the number of
+    // array positions written.
     fn exchange(&mut self, first: u32, count: u32) -> u64
         requires first { first < length (list_of self.old) }
         requires count { count ≤ length (list_of self.old) }
@@ -267,7 +270,8 @@ impl SeenTour {
         2 * (count as u64 / 2)
     }
 
-    // There is room for two more runs; how many places were written for it.
+    // Makes room for two more segments, if necessary by rewriting the array, and returns the number of array positions
+    // written.
     fn make_room(&mut self) -> u64
         ensures list { list_of self.new ≡ list_of self.old }
         ensures begin { self.new.begin ≡ self.old.begin }
@@ -288,7 +292,7 @@ impl SeenTour {
         self.order.len() as u64
     }
 
-    /// Writes the array as it is seen.
+    /// Rewrites the array in the order of the sequence, as one segment.
     pub fn rewrite(&mut self)
         ensures list { list_of self.new ≡ list_of self.old }
         ensures begin { self.new.begin ≡ self.old.begin }
@@ -308,7 +312,7 @@ impl SeenTour {
         self.runs.reset();
     }
 
-    /// Takes the order of a list of the same cities, which one run shows.
+    /// Takes the order of another list of the cities, as one segment.
     pub fn take_order(&mut self, cities: &[u32])
         requires tour { IsSizedTour cities.now }
         requires size { length cities.now ≡ length (list_of self.old) }
@@ -322,7 +326,7 @@ impl SeenTour {
         self.begin = 0;
     }
 
-    /// Writes the cities into a list, in their order.
+    /// Writes the cities to a list, in tour order.
     pub fn write_order(&self, cities: &mut [u32])
         requires size { length cities.old ≡ length (list_of self.now) }
         ensures order { cities.new ≡ list_of self.now }
@@ -336,7 +340,7 @@ impl SeenTour {
         );
     }
 
-    // Reverses what is seen at `count` places from `first` on, by turning runs round.
+    // Reverses `count` positions of the sequence from `first` on, by reversing segments.
     fn turn(&mut self, first: u32, count: u32)
         requires first { first < length (list_of self.old) }
         requires count { (0 < count) × (count ≤ length (list_of self.old)) }

@@ -1,4 +1,4 @@
-//! A run begins where something is seen.
+//! Segments are split, so that one begins at a given position of the sequence.
 ghost use Rattle.std.specs.Prelude.{◌≡◌, ◌≤◌, ◌<◌, ◌+◌, ◌-◌, ◌*◌, ℕ, List, true, false, length, slice_index_or};
 ghost use Rattle.std.specs.Prelude.{vec_len};
 ghost use Rattle.std.specs.List.{insert};
@@ -12,7 +12,7 @@ use crate::naming::note_run;
 use crate::run::{Run, parts_of};
 use crate::spots::index_at;
 
-// Puts a run before the k-th one.
+// Inserts a segment before the k-th one.
 fn insert_run(runs: &mut Vec<Run>, k: usize, run: Run)
     requires index { k ≤ vec_len runs.old }
     requires room { vec_len runs.old < vec_capacity runs.old }
@@ -23,7 +23,7 @@ fn insert_run(runs: &mut Vec<Run>, k: usize, run: Run)
     runs[k..].rotate_right(1);
 }
 
-// Parts the k-th run in two, where the second is seen d after the first.
+// Splits the k-th segment in two; the second part begins d positions after the first.
 fn split_run(runs: &mut Vec<Run>, k: usize, d: u32)
     requires index { k < vec_len runs.old }
     requires room { vec_len runs.old < vec_capacity runs.old }
@@ -39,7 +39,7 @@ fn split_run(runs: &mut Vec<Run>, k: usize, d: u32)
     insert_run(runs, k + 1, two);
 }
 
-// Of a run that was parted at k, the part of the higher places, which has a new name.
+// The part with the new id, which has the higher array positions, of a segment split into the k-th and the next one.
 fn new_part(runs: &[Run], size: u32, k: usize) -> Run
     requires laid { AreLaidOut size runs.now }
     requires index { k + 1 < length runs.now }
@@ -52,7 +52,8 @@ fn new_part(runs: &[Run], size: u32, k: usize) -> Run
     if run.back { run } else { runs[k + 1] }
 }
 
-/// A run begins where v is seen: its index.
+/// Splits a segment, if necessary, so that one begins at position v of the sequence. Returns the index of that segment,
+/// or the number of segments if v is `size`.
 pub fn cut_runs(runs: &mut Vec<Run>, table: &mut [u32], size: u32, v: u32) -> usize
     requires size { size ≤ CITY_LIMIT }
     requires many { vec_len runs.old ≤ CITY_LIMIT }

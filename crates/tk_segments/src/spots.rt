@@ -1,4 +1,4 @@
-//! Where something is seen: by which run, and at which place of the array.
+//! Spots: an array position together with its segment.
 ghost use Rattle.std.specs.Prelude.{◌≡◌, ◌≤◌, ◌<◌, ◌+◌, ◌-◌, ◌*◌, ◌^◌, ℕ, length, slice_index_or};
 ghost use Rattle.tk_problem.specs.declared.limits.TheConstants.{CITY_LIMIT};
 ghost use Rattle.tk_segments.specs.Runs.{AreLaidOut, AreNamed, CanBeFound, IsAfterPlace, IsSpot, size_before};
@@ -6,7 +6,7 @@ ghost use Rattle.tk_segments.specs.declared.run.Run.{Run};
 
 use crate::run::{Run, offset_in, place_in};
 
-/// A place of the array, and the index of the run that shows it.
+/// An array position, and the index of the segment that contains it.
 #[derive(Clone, Copy, Drop)]
 pub struct Spot {
     pub index: usize,
@@ -14,7 +14,7 @@ pub struct Spot {
 }
 
 impl Spot {
-    // The place before it in the array.
+    // The spot of the array position before it.
     fn lower(self) -> Spot
         requires { 0 < self.place }
         ensures { result ≡ record self { place = self.place - 1 } }
@@ -25,7 +25,7 @@ impl Spot {
         }
     }
 
-    // The place after it in the array.
+    // The spot of the array position after it.
     fn upper(self) -> Spot
         requires { self.place + 1 < 2 ^ 32 }
         ensures { result ≡ record self { place = self.place + 1 } }
@@ -37,7 +37,7 @@ impl Spot {
     }
 }
 
-/// The index of the run that shows what is seen at v.
+/// The index of the segment with position v of the sequence.
 pub fn index_at(runs: &[Run], size: u32, v: u32) -> usize
     requires laid { AreLaidOut size runs.now }
     requires v_in { v < size }
@@ -58,7 +58,7 @@ pub fn index_at(runs: &[Run], size: u32, v: u32) -> usize
     low
 }
 
-/// What is seen at v.
+/// The spot at position v of the sequence.
 pub fn spot_at(runs: &[Run], size: u32, v: u32) -> Spot
     requires laid { AreLaidOut size runs.now }
     requires v_in { v < size }
@@ -72,7 +72,7 @@ pub fn spot_at(runs: &[Run], size: u32, v: u32) -> Spot
     }
 }
 
-// The index of the run that holds a place of the array.
+// The index of the segment that contains an array position.
 fn index_of(runs: &[Run], home: &[u32], table: &[u32], size: u32, place: u32) -> usize
     requires laid { AreLaidOut size runs.now }
     requires named { AreNamed runs.now home.now }
@@ -91,7 +91,7 @@ fn index_of(runs: &[Run], home: &[u32], table: &[u32], size: u32, place: u32) ->
     index
 }
 
-/// Where a place of the array is seen: the spot, and how many places are seen before it.
+/// The spot of an array position, and its position in the sequence.
 pub fn spot_of(runs: &[Run], home: &[u32], table: &[u32], size: u32, place: u32) -> (Spot, u32)
     requires size { size ≤ CITY_LIMIT }
     requires laid { AreLaidOut size runs.now }
@@ -109,7 +109,7 @@ pub fn spot_of(runs: &[Run], home: &[u32], table: &[u32], size: u32, place: u32)
     (Spot { index, place }, run.start + offset_in(run, place))
 }
 
-/// What is seen after a spot, on the cycle.
+/// The spot after a spot, on the cycle.
 pub fn after(runs: &[Run], size: u32, spot: Spot) -> Spot
     requires size { size ≤ CITY_LIMIT }
     requires laid { AreLaidOut size runs.now }
@@ -135,7 +135,7 @@ pub fn after(runs: &[Run], size: u32, spot: Spot) -> Spot
     }
 }
 
-/// What is seen before a spot, on the cycle.
+/// The spot before a spot, on the cycle.
 pub fn before(runs: &[Run], size: u32, spot: Spot) -> Spot
     requires size { size ≤ CITY_LIMIT }
     requires laid { AreLaidOut size runs.now }
@@ -162,7 +162,7 @@ pub fn before(runs: &[Run], size: u32, spot: Spot) -> Spot
     }
 }
 
-/// What is seen after a spot, and before it, on the cycle.
+/// The spots after and before a spot, on the cycle.
 pub fn beside(runs: &[Run], size: u32, spot: Spot) -> (Spot, Spot)
     requires size { size ≤ CITY_LIMIT }
     requires laid { AreLaidOut size runs.now }

@@ -1,4 +1,4 @@
-//! A tour store over runs of an array.
+//! A tour store in an array that is divided into segments.
 ghost use Rattle.std.specs.Prelude.{◌≡◌, ◌≤◌, ◌<◌, ◌+◌, ◌-◌, ◌*◌, ◌/◌, ◌^◌, OnOk, IfOk, IfErr, length};
 ghost use Rattle.tk_segments.specs.SeenTours.{list_of, room_of, run_count_of};
 ghost use Rattle.tk_segments.specs.Writes.{AreEnough, ArePaid};
@@ -14,10 +14,10 @@ use std::alloc::Global;
 use tk_problem::CITY_LIMIT;
 use tk_tour::{Around, Flip, TourFault, TourStore, UndoStore, Verdict, place_cities, shorter_side};
 
-/// So many segments at most.
+/// Maximum number of segments.
 pub const MOST: u32 = 250;
 
-// The greatest number of places whose reversal exchanges cities, in a tour of n.
+// The maximum number of positions whose reversal swaps cities, in a tour of n cities.
 fn short_for(n: u32) -> u32
     requires size { n ≤ CITY_LIMIT }
     ensures limits { AreEnough n result MOST }
@@ -25,7 +25,7 @@ fn short_for(n: u32) -> u32
     (n / 124).max(499) + 1
 }
 
-// Where each city of the list stands, from 0.
+// The position of each city in the list, counted from 0, or the fault of the list.
 fn places_of(alloc: Global, cities: &[u32]) -> Result<Vec<u32>, TourFault>
     requires size { IsTourSize (length cities.now) }
     ensures tour { OnOk result (IsSizedTour cities.now) }
@@ -43,7 +43,7 @@ fn places_of(alloc: Global, cities: &[u32]) -> Result<Vec<u32>, TourFault>
     }
 }
 
-/// A tour of 2 to 100,000 cities, as an array that is seen through at most so many segments.
+/// A tour of 2 to 100,000 cities: an array divided into a bounded number of segments, each read forwards or backwards.
 #[derive(Drop)]
 pub struct SegmentTour {
     seen: SeenTour,
@@ -201,11 +201,11 @@ impl SegmentTour {
     ghost use Rattle.tk_tour.specs.Counters.{saturated};
     ghost use Rattle.tk_segments.specs.Writes.{changed};
 
-    /// A tour that stands as the list does, with every count at 0, and with limits that suit its size.
+    /// A tour in the order of the list, with all counters at 0, and with limits that suit its size.
     ///
     /// # Errors
-    /// `WrongCount` for fewer than 2 cities or more than 100,000, else the first fault of the list, place by place:
-    /// `OutOfRange` before `RepeatedCity`. `NoMemory` where there is no memory for it.
+    /// `WrongCount` for fewer than 2 cities or more than 100,000, otherwise the first fault of the list, position by
+    /// position: `OutOfRange` before `RepeatedCity`. `NoMemory` if memory runs out.
     pub fn from_list(alloc: Global, cities: &[u32]) -> Result<SegmentTour, TourFault>
         ensures tour { OnOk result (IsSizedTour cities.now) }
         ensures order { IfOk result (λ t. seen_order t ≡ cities.now) }
@@ -221,12 +221,12 @@ impl SegmentTour {
         SegmentTour::with_limits(alloc, cities, short_for(n as u32), MOST)
     }
 
-    /// A tour that stands as the list does, with every count at 0. Reversals of more than `short` places turn segments
-    /// round, of which there are at most `most`.
+    /// A tour in the order of the list, with all counters at 0. It has at most `most` segments, and reversals of more
+    /// than `short` positions reverse segments.
     ///
     /// # Errors
-    /// `WrongCount` for fewer than 2 cities or more than 100,000, else the first fault of the list, place by place:
-    /// `OutOfRange` before `RepeatedCity`. `NoMemory` where there is no memory for it.
+    /// `WrongCount` for fewer than 2 cities or more than 100,000, otherwise the first fault of the list, position by
+    /// position: `OutOfRange` before `RepeatedCity`. `NoMemory` if memory runs out.
     pub fn with_limits(
         alloc: Global,
         cities: &[u32],
@@ -266,7 +266,8 @@ impl SegmentTour {
         })
     }
 
-    // Reverses `count` places of the list from `first` on, from 0, and counts its swaps and writes.
+    // Reverses `count` positions of the list, from position `first` (counted from 0) on, and counts the swaps and the
+    // writes.
     fn reverse(&mut self, first: u32, count: u32)
         requires first { first < length (seen_order self.old) }
         requires count { 2 * count ≤ length (seen_order self.old) }
@@ -284,8 +285,9 @@ impl SegmentTour {
         self.swaps = self.swaps.saturating_add(count as u64 / 2);
     }
 
-    /// How many places of its array it has written, to make and undo flips and where it wrote the whole array anew: at
-    /// most two for each swap. What `take_order` copies is counted there.
+    /// How many array positions have been written since the counters were last reset, to make and undo flips and to
+    /// rewrite the whole array for them: at most two for each swap. The cities that `take_order` copies are counted by
+    /// `copied` instead.
     pub fn writes(&self) -> u64
         ensures count { result ≡ writes_of self.now }
         ensures paid { result ≤ 2 * (seen_swaps self.now + seen_undo_swaps self.now) }
@@ -293,7 +295,7 @@ impl SegmentTour {
         self.writes
     }
 
-    /// How many segments there are. A flip divides, turns or looks through no more of them than there may be.
+    /// The number of segments. A flip splits, reverses or visits at most as many segments as the tour can have.
     pub fn segments(&self) -> usize
         ensures count { result ≡ segments_of self.now }
         ensures few { (1 ≤ result) × (result ≤ most_of self.now) }

@@ -1,4 +1,4 @@
-//! What runs show is turned round, or begun elsewhere.
+//! Parts of the sequence are reversed, and the sequence is rotated.
 ghost use Rattle.std.specs.Prelude.{◌≡◌, ◌≤◌, ◌<◌, ◌+◌, ◌-◌, ◌*◌, ℕ, List, length, map, reverse, sum_by, vec_len};
 ghost use Rattle.std.specs.List.{All};
 ghost use Rattle.std.specs.Vec.{vec_capacity};
@@ -10,7 +10,7 @@ ghost use Rattle.tk_segments.specs.Runs.{run_size, size_before, turned_run};
 use crate::run::Run;
 use crate::splitting::cut_runs;
 
-// Each run is seen the other way, in reverse order.
+// Reverses the order of the segments, and the direction of each.
 fn turn_round(runs: &mut [Run])
     ensures { runs.new ≡ map turned_run (reverse runs.old) }
 {
@@ -20,7 +20,7 @@ fn turn_round(runs: &mut [Run])
     }
 }
 
-// The runs are seen from v on, one after another.
+// Sets the starts of the segments in the sequence, one after another from v on.
 fn place_runs(runs: &mut [Run], v: u32)
     requires sizes { All (λ r. r.low ≤ r.high) runs.old }
     requires fits { v + sum_by run_size runs.old ≤ CITY_LIMIT }
@@ -34,7 +34,7 @@ fn place_runs(runs: &mut [Run], v: u32)
     }
 }
 
-// What the runs from i up to j show, from `first` on, is seen in reverse order.
+// Reverses what the segments from index i to j - 1 show, which begins at position `first` of the sequence.
 fn turn_runs(runs: &mut [Run], size: u32, i: usize, j: usize, first: u32)
     requires range { (i ≤ j) × (j ≤ length runs.old) }
     requires size { size ≤ CITY_LIMIT }
@@ -52,7 +52,8 @@ fn turn_runs(runs: &mut [Run], size: u32, i: usize, j: usize, first: u32)
     place_runs(part, first);
 }
 
-/// What is seen from `first` on, up to `last`, is seen in reverse order: the index up to which no run has changed.
+/// Reverses the positions of the sequence from `first` to `last - 1`. Returns an index before which no segment has
+/// changed.
 pub fn turn_seen(runs: &mut Vec<Run>, table: &mut [u32], size: u32, first: u32, last: u32) -> usize
     requires size { size ≤ CITY_LIMIT }
     requires many { vec_len runs.old < CITY_LIMIT }
@@ -72,7 +73,7 @@ pub fn turn_seen(runs: &mut Vec<Run>, table: &mut [u32], size: u32, first: u32, 
     i.saturating_sub(1)
 }
 
-/// What is seen from `first` on, up to the end, is seen in reverse order.
+/// Reverses the sequence from position `first` to the end.
 pub fn turn_rest(runs: &mut Vec<Run>, table: &mut [u32], size: u32, first: u32)
     requires size { size ≤ CITY_LIMIT }
     requires many { vec_len runs.old ≤ CITY_LIMIT }
@@ -90,7 +91,7 @@ pub fn turn_rest(runs: &mut Vec<Run>, table: &mut [u32], size: u32, first: u32)
     turn_runs(runs, size, i, j, first);
 }
 
-/// What the k-th run shows is seen first.
+/// Rotates the sequence to begin with the k-th segment.
 pub fn begin_run(runs: &mut [Run], size: u32, k: usize)
     requires index { k ≤ length runs.old }
     requires size { size ≤ CITY_LIMIT }
@@ -105,7 +106,7 @@ pub fn begin_run(runs: &mut [Run], size: u32, k: usize)
     place_runs(runs, 0);
 }
 
-/// What is seen at v is seen first.
+/// Rotates the sequence to begin at position v.
 pub fn begin_seen(runs: &mut Vec<Run>, table: &mut [u32], size: u32, v: u32)
     requires size { size ≤ CITY_LIMIT }
     requires many { vec_len runs.old ≤ CITY_LIMIT }

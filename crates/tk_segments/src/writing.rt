@@ -1,4 +1,4 @@
-//! The array is written as it is seen.
+//! The sequence is written to a list.
 ghost use Rattle.std.specs.Prelude.{◌≡◌, ◌≤◌, ◌<◌, ◌+◌, ◌-◌, ◌++◌, length, drop, take};
 ghost use Rattle.tk_problem.specs.declared.limits.TheConstants.{CITY_LIMIT};
 ghost use Rattle.tk_tour.specs.Reversal.{begun_at};
@@ -6,7 +6,7 @@ ghost use Rattle.tk_segments.specs.Runs.{AreLaidOut, IsWithin, shown, shown_by, 
 
 use crate::run::{Run, parts_of};
 
-// Writes what a run shows, from a place of the list on.
+// Writes what a segment shows to a list, from position `from` on.
 fn write_run(order: &[u32], run: Run, from: u32, list: &mut [u32])
     requires within { IsWithin (length order.now) run }
     requires fits { from + run_size run ≤ length list.old }
@@ -21,7 +21,7 @@ fn write_run(order: &[u32], run: Run, from: u32, list: &mut [u32])
     }
 }
 
-// Writes what a run shows, from its start on, into a list that is to be begun at `begin`.
+// Writes what a segment shows to its positions in a list of the whole sequence, rotated to begin at position `begin`.
 fn write_run_begun(order: &[u32], run: Run, size: u32, begin: u32, list: &mut [u32])
     requires size { size ≤ CITY_LIMIT }
     requires length { length order.now ≡ size }
@@ -44,7 +44,7 @@ fn write_run_begun(order: &[u32], run: Run, size: u32, begin: u32, list: &mut [u
     }
 }
 
-/// Writes what the runs show, begun at `begin`.
+/// Writes the sequence to a list, rotated to begin at position `begin`.
 pub fn write_seen(order: &[u32], runs: &[Run], size: u32, begin: u32, list: &mut [u32])
     requires size { size ≤ CITY_LIMIT }
     requires length { length order.now ≡ size }

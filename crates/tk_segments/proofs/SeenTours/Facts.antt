@@ -1,4 +1,4 @@
--- What is known of a tour that is seen through runs.
+-- Facts about a tour in an array that is divided into segments.
 use Rattle.std.proofs.Common.{◌≡◌, ℕ, ◌+◌, ◌-◌, ◌<◌, ◌≤◌, ◌⊎◌, inl, inr, ⊎_elim, List, length, refl, sym, ap, ◌∙◌}
 use Rattle.std.proofs.Common.{subst, arith, get_or}
 use Rattle.std.proofs.lemmas.Bool.{cases_lt}
@@ -20,7 +20,7 @@ use Rattle.tk_segments.proofs.SeenTours.Showing.{begun_at-compose}
 use Rattle.tk_segments.proofs.SeenTours.Stepping.{spot_seen, before_place, after_place}
 use Rattle.tk_segments.proofs.SeenTours.Turning.{within_of, length-shown-sum}
 
--- what the runs show
+-- the sequence
 abbrev pub seen_of : SeenTour → List ℕ
 seen_of s = shown s.order.items s.runs.runs.items
 
@@ -50,7 +50,7 @@ facts s =
       tour = tour_seen n s.begin (seen_of s) (subst P l2 s.tour.2);
     }
 
--- where a city stands in the array
+-- the array position of a city
 pub city_stands : (s : SeenTour) (c : ℕ) → IsCity (length (list_of s)) c →
     (c - 1 < length s.place.items) × (get_or s.place.items (c - 1) 0 < s.runs.size)
     × (get_or s.order.items (get_or s.place.items (c - 1) 0) 0 ≡ c)
@@ -60,7 +60,7 @@ city_stands s c h =
     s.inverse h.0 (omega (arith, h.1, f.list, f.order)) in
     (omega (arith, h, f.list, f.order, s.inverse.0), omega (arith, a.0, f.order), a.1)
 
--- what a spot shows
+-- the entry at a spot
 pub spot_is : (s : SeenTour) (v : ℕ) (spot : Spot) → IsSpot s.runs.runs.items v spot →
     (spot.place < s.runs.size) × (get_or (seen_of s) v 0 ≡ get_or s.order.items spot.place 0)
 spot_is s v spot h =
@@ -73,13 +73,13 @@ sized_tour n list two small tour =
     let P : ℕ → Type 0 = λ u. IsTour u list in
     (omega (arith, tour.0, two), omega (arith, tour.0, small), subst P (sym tour.0) tour)
 
--- the city of a spot
+-- the city at a spot
 pub city_of_spot : (s : SeenTour) (c p v : ℕ) (spot : Spot) → IsCity (length (list_of s)) c →
     p ≡ get_or s.place.items (c - 1) 0 → IsSpot s.runs.runs.items v spot → spot.place ≡ p → get_or (seen_of s) v 0 ≡ c
 city_of_spot s c p v spot h ep is es =
     (spot_is s v spot is).1 ∙ ap (λ u. get_or s.order.items u 0) (es ∙ ep) ∙ (city_stands s c h).2
 
--- where a city is seen, and where the one after it is, or before it
+-- the spot of a city, and below those of its successor and its predecessor
 pub seen_at : (s : SeenTour) (c p v : ℕ) (spot : Spot) → IsCity (length (list_of s)) c →
     p ≡ get_or s.place.items (c - 1) 0 → IsSpot s.runs.runs.items v spot → spot.place ≡ p → v < s.runs.size →
     SeesAt s c spot
@@ -127,7 +127,7 @@ step_before s c spot before at step =
           (sym there.1);
     }
 
--- what is seen is reversed, wherever the list begins
+-- the reversed sequence is a tour, wherever the list begins
 pub reversed_tour : (s : SeenTour) (b first count : ℕ) (seen : List ℕ) →
     seen ≡ reversed_places first count (seen_of s) → IsSizedTour (begun_at b seen)
 reversed_tour s b first count seen e =
@@ -148,7 +148,7 @@ reversed_round_tour s b e first count seen h =
     (subst P (sym h)
     (IsTour-reversed_places n first count (begun_at e (seen_of s)) (tour_begun n e (seen_of s) f.tour))))
 
--- the list of a reversal that does not go round the end, and of one that does
+-- the list after a reversal that does not go past the end, and below after one that does
 pub reversed_list : (s : SeenTour) (k first count : ℕ) (seen : List ℕ) →
     seen ≡ reversed_places first count (seen_of s) → k < length (list_of s) → first < s.runs.size →
     count ≤ s.runs.size →
@@ -181,7 +181,7 @@ reversed_round_list s b k first count e seen h lk lf lc lb le begin at =
     (omega (arith, f.seen, lc))
     (omega (arith, f.seen, le, lf)) le (subst P (f.list ∙ sym f.seen) at) (subst Q (sym f.seen) moved) refl h
 
--- the list where the runs are begun elsewhere
+-- the list after the segments are rotated
 pub begun_list : (s : SeenTour) (b v : ℕ) (seen : List ℕ) → seen ≡ begun_at v (seen_of s) → v < s.runs.size →
     ((v ≤ s.begin) × (b ≡ s.begin - v)) ⊎ ((s.begin < v) × (b ≡ s.begin + s.runs.size - v)) →
     (begun_at b seen ≡ list_of s) × (b < s.runs.size)
@@ -203,7 +203,7 @@ begun_list s b v seen e lv begin =
       lb,
     )
 
--- the k-th place of the list is seen at v
+-- the position v in the sequence of position k of the list
 pub seen_in : (s : SeenTour) (k v : ℕ) → k < length (list_of s) → IsPlaceFrom (length (list_of s)) s.begin k v →
     v < s.runs.size
 seen_in s k v lk h =
@@ -220,7 +220,7 @@ list_at s k v c lk h e =
     let P : ℕ → Type 0 = λ u. IsPlaceFrom u s.begin k v in
     stands_there s.runs.size s.begin k v c (seen_of s) f.seen s.begins (omega (arith, f.list, lk)) (subst P f.list h) e
 
--- as many cities stand in the array
+-- tours of the same size have arrays of the same size
 pub size_again : (s t : SeenTour) → length (list_of t) ≡ length (list_of s) →
     length t.order.items ≡ length s.order.items
 size_again s t e =

@@ -1,4 +1,4 @@
--- A run joined again: its parts are those of a split of it.
+-- Joined segments: their two parts are those of a split of the joined one.
 use Rattle.std.proofs.Common.{◌≡◌, ℕ, true, false, ◌+◌, ◌<◌, ⊎_elim, List, [], ◌∷◌, ◌++◌, length, take, drop, set}
 use Rattle.std.proofs.Common.{refl, sym, ap, ◌∙◌, subst, arith, get_or}
 use Rattle.std.specs.Prelude.{sum_by}
@@ -12,12 +12,12 @@ use Rattle.tk_segments.proofs.SeenTours.Searching.{start_is, sum_more}
 use Rattle.tk_segments.proofs.SeenTours.Splitting.{cases_bool, part_facts, parted_size, old_is, head_of}
 use Rattle.tk_segments.proofs.SeenTours.Turning.{within_of, all_within, within-append, within_left, within_right}
 
--- there is a run where there is a place
+-- there is a segment if there is a position
 pub some_runs : (n : ℕ) (xs : List Run) → AreLaidOut n xs → 0 < n → 0 < length xs
 some_runs n [] h lt = omega (arith, h.whole, lt)
 some_runs n (x ∷ xs) h lt = omega arith
 
--- the run of two parts
+-- the segment with these two parts
 join_within : (n d id : ℕ) (run one two : Run) → AreSeenParts d id run one two → IsWithin n one → IsWithin n two →
     (run.low < run.high) × IsWithin n run × (d < run_size run)
 join_within n d id run one two h w x =
@@ -34,7 +34,7 @@ join_within n d id run one two h w x =
     ))
     (cases_bool run.back)
 
--- the second of two runs begins where the first one ends
+-- the second of two segments begins where the first one ends
 pub begins_after : (n k : ℕ) (xs : List Run) (one two : Run) → AreLaidOut n xs → k + 1 < length xs →
     one ≡ get_or xs k one → two ≡ get_or xs (k + 1) two → two.start ≡ one.start + run_size one
 begins_after n k xs one two laid lt e f =
@@ -57,7 +57,7 @@ two_of xs k one two lt e f =
     ∙ ap (λ u. take k xs ++ one ∷ u) (drop_more xs (k + 1) two lt ∙ ap (λ u. u ∷ drop (k + 1 + 1) xs) (sym f)
     ∙ ap (λ u. two ∷ drop u xs) g)
 
--- the list where a run has taken the place of two
+-- the list after one segment has replaced two
 pub put_list : (old : List Run) (k : ℕ) (run : Run) → k + 1 < length old →
     take (k + 1) (set old k run) ++ drop (k + 1 + 1) (set old k run) ≡ take k old ++ run ∷ drop (k + 2) old
 put_list old k run lt =
@@ -79,7 +79,7 @@ put_list old k run lt =
     ∙ drop_at (A ++ run ∷ two ∷ []) C (k + 1 + 1) l2)
     ∙ append_assoc A (run ∷ []) C
 
--- the runs before the join are a split of those after it
+-- the segments before the join are a split of those after it
 pub join_split : (old new : List Run) (k id : ℕ) (run one two : Run) → k + 1 < length old → one ≡ get_or old k one →
     two ≡ get_or old (k + 1) two → id + 1 ≡ length old →
     AreSeenParts (run_size one) id run one two → new ≡ take k old ++ run ∷ drop (k + 2) old →
@@ -108,7 +108,7 @@ join_split old new k id run one two lt e f ids parts joined =
       omega (arith, size, ids, lt),
     )
 
--- runs that are laid out begin one after another, in both parts of them
+-- if segments are laid out, those of a front part and those of the rest start one after another
 laid_parts : (n : ℕ) (us ts xs : List Run) → AreLaidOut n xs → xs ≡ us ++ ts →
     (us ≡ placed 0 us) × (ts ≡ placed (sum_by run_size us) ts)
 laid_parts n us ts xs h e =

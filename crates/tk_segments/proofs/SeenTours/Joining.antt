@@ -1,4 +1,4 @@
--- The parts of a run, whichever is seen first: where runs are found after it was parted, and after it was joined again.
+-- The two parts of a segment, in either order: how segments are found after a split, and after a join.
 use Rattle.std.proofs.Common.{◌≡◌, ◌≢◌, ℕ, true, false, ◌+◌, ◌-◌, ◌*◌, ◌<◌, ◌≤◌, ◌⊎◌, inl, inr, ⊎_elim, List, length}
 use Rattle.std.proofs.Common.{refl, sym, ap, ◌∙◌, subst, arith, get_or}
 use Rattle.std.proofs.lemmas.Bool.{cases_lt, cases_eq, true≢false}
@@ -10,11 +10,11 @@ use Rattle.tk_segments.specs.declared.run.Run.{Run}
 use Rattle.tk_segments.proofs.SeenTours.Splitting.{cases_bool}
 use Rattle.tk_segments.proofs.SeenTours.Naming.{split_at, split_entry_before, split_entry_beyond, split_next}
 
--- the run at j is the one at i after that at k was parted
+-- the segment at j is the one at i after the one at k is split
 abbrev pub IsShifted : ℕ → ℕ → ℕ → Type 0
 IsShifted k j i = ((j < k) × (i ≡ j)) ⊎ ((k < j) × (i ≡ j + 1))
 
--- where the parts stand, and where the other runs do
+-- the parts of the k-th segment after a split, with their indices, and the indices of the other segments
 pub record Parted (old new : List Run) (k : ℕ) (run : Run) : Type 0 where
   pub lower : ℕ
   pub higher : ℕ
@@ -141,7 +141,7 @@ shifted_other : (k i j : ℕ) → IsShifted k j i → j ≢ k
 shifted_other k i j x =
     ⊎_elim (λ (u : (j < k) × (i ≡ j)). omega (arith, u)) (λ (u : (k < j) × (i ≡ j + 1)). omega (arith, u)) x
 
--- no place is in two runs after a split
+-- no array position is in two segments after a split
 split_apart : (old new : List Run) (k : ℕ) (run : Run) → Parted old new k run → AreApart old → AreApart new
 split_apart old new k run p apart = λ i j place d li lj u v.
     let P : Run → Type 0 = λ r. IsIn r place in
@@ -188,7 +188,7 @@ split_apart old new k run p apart = λ i j place d li lj u v.
     (cases_eq i p.higher))
     (cases_eq i p.lower)
 
--- no place is in two runs after a join
+-- no array position is in two segments after a join
 join_apart : (old new : List Run) (k : ℕ) (run : Run) → Parted old new k run → AreApart new → AreApart old
 join_apart old new k run p apart = λ i j place d li lj u v.
     let P : Run → Type 0 = λ r. IsIn r place in
@@ -220,7 +220,7 @@ join_apart old new k run p apart = λ i j place d li lj u v.
     (cases_eq j k))
     (cases_eq i k)
 
--- a place that a run held, one of that name holds after it, if it is not in the new part
+-- after a split, the segment with this id still contains an array position that is not in the new part
 holds_split : (old new : List Run) (k id place : ℕ) (run : Run) → (p : Parted old new k run) → (place < p.high.low)
     ⊎ (p.high.high ≤ place) → Holds old id place → Holds new id place
 holds_split old new k id place run p out h =
@@ -248,7 +248,7 @@ holds_split old new k id place run p out h =
     (w.0, w.1, λ d. subst (P d) (sym (w.4 d)) (h.2 d)))
     (cases_eq h.0 k)
 
--- so runs can be found after a split, where the new part is noted
+-- segments can be found after a split, if the id of the new part is noted in the table
 pub split_found : (n bucket : ℕ) (old new : List Run) (table table' : List ℕ) (k m : ℕ) (part : Run) → k < length old →
     (s : IsSplit old new k m) →
     ((d : Run) → (get_or new k d).back ≡ true → part ≡ get_or new k d) →
@@ -296,7 +296,7 @@ split_found n bucket old new table table' k m part lt s behind ahead noted h =
           (cases_lt place p.high.low);
     }
 
--- the names stay when a run is joined, but for that of the part of the higher places
+-- a join keeps all ids except that of the part with the higher positions
 names_join : (old new : List Run) (k id lo : ℕ) (run : Run) → (p : Parted old new k run) → id ≢ length old →
     Names new id lo → Names old id lo
 names_join old new k id lo run p other h =
@@ -320,7 +320,7 @@ names_join old new k id lo run p other h =
     (cases_eq h.0 p.lower))
     (cases_eq h.0 p.higher)
 
--- a place that is not in the joined run is still held by the run of that name
+-- after a join, the segment with this id still contains an array position that is not in the joined segment
 holds_join : (old new : List Run) (k id place : ℕ) (run : Run) → (p : Parted old new k run) → (place < run.low)
     ⊎ (run.high ≤ place) → Holds new id place → Holds old id place
 holds_join old new k id place run p out h =
@@ -346,7 +346,7 @@ holds_join old new k id place run p out h =
     (cases_eq h.0 p.lower))
     (cases_eq h.0 p.higher)
 
--- no other run than the lower part knows the name of the higher one as that of the next
+-- no segment other than the lower part has the id of the higher part as `next`
 next_of_one : (n bucket : ℕ) (old new : List Run) (table : List ℕ) (k : ℕ) (run : Run) → (p : Parted old new k run) →
     All (IsWithin n) new → HaveNames new → CanBeFound n bucket new table →
     (j : ℕ) (d : Run) → j < length new → j ≢ p.lower → (get_or new j d).high < n → (get_or new j d).next ≢ length old
@@ -372,7 +372,7 @@ next_of_one n bucket old new table k run p within names h j d lj nl lt e =
       omega (arith, ap (λ (r : Run). r.high) lower, p.parts.low_is, p.parts.inside),
     ))
 
--- so runs can be found after a join, where the joined run is noted
+-- segments can be found after a join, if the id of the joined segment is noted in the table
 pub join_found : (n bucket : ℕ) (old new : List Run) (table table' : List ℕ) (k : ℕ) (run : Run) →
     (p : Parted old new k run) → All (IsWithin n) new → HaveNames new →
     IsNoted bucket run table table' → CanBeFound n bucket new table → CanBeFound n bucket old table'

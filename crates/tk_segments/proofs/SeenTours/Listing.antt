@@ -1,4 +1,4 @@
--- The list of a tour that is seen through runs: where its cities stand, and what stands beside them.
+-- The list of a tour in an array that is divided into segments: the positions of its cities, and their neighbours.
 use Rattle.std.proofs.Common.{◌≡◌, ℕ, ◌+◌, ◌-◌, ◌<◌, ◌≤◌, ◌⊎◌, inl, inr, ⊎_elim, List, length, sym, ap, ◌∙◌, subst}
 use Rattle.std.proofs.Common.{arith, get_or}
 use Rattle.std.proofs.lemmas.Bool.{cases_lt}
@@ -11,7 +11,7 @@ use Rattle.tk_tour.proofs.StoredTours.Places.{AtPlace, length-begun_at, get_or-b
 use Rattle.tk_tour.proofs.StoredTours.Reversing.{at_place, at_next}
 use Rattle.tk_tour.proofs.StoredTours.Flips.{next_city_stored, prev_city_stored}
 
--- what is seen is a tour, wherever the list begins
+-- the sequence is a tour, wherever the list begins
 pub tour_seen : (n b : ℕ) (seen : List ℕ) → IsTour n (begun_at b seen) → IsTour n seen
 tour_seen n b seen tour = (
   sym (length-begun_at b seen) ∙ tour.0,
@@ -24,7 +24,7 @@ tour_begun n b seen tour = (
   λ c low high. occurrences-rotation c (IsRotation-begun_at b seen) ∙ tour.1 c low high,
 )
 
--- where in the list a city stands that is seen at v
+-- the position k in the list of position v of the sequence
 pub record StandsAt (n b v : ℕ) : Type 0 where
   pub k : ℕ
   pub within : k < n
@@ -142,7 +142,7 @@ prev_begun n b v w c x seen tour lb lv lw h ec ex =
     (λ (a : (z.k ≡ 0) × (y.k ≡ n - 1)). inr (a.0, there ∙ ap (λ u. get_or list u 0) (a.1 ∙ ap (λ u. u - 1) (sym ll))))
     beside)
 
--- the city that is seen at v stands at the k-th place of the list
+-- the city at position v of the sequence is at position k of the list
 pub stands_there : (n b k v c : ℕ) (seen : List ℕ) → length seen ≡ n → b < n → k < n → IsPlaceFrom n b k v →
     get_or seen v 0 ≡ c → get_or (begun_at b seen) k 0 ≡ c
 stands_there n b k v c seen ls lb lk h e =

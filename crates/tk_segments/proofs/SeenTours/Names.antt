@@ -1,4 +1,4 @@
--- The names of runs: after a split, and where the runs stand in another order.
+-- The ids of segments: after a split, and in another order.
 use Rattle.std.proofs.Common.{◌≡◌, ◌≢◌, ℕ, true, false, ◌+◌, ◌-◌, ◌<◌, ◌≤◌, ⊎_elim, List, length, set, sym, ap, ◌∙◌}
 use Rattle.std.proofs.Common.{◌++◌, take, subst, arith, get_or}
 use Rattle.std.proofs.lemmas.Bool.{cases_lt}
@@ -25,7 +25,7 @@ pub SameBefore-trans : (i j : ℕ) (old mid new : List Run) → SameBefore i old
     SameBefore i old new
 SameBefore-trans i j old mid new h k le = (h.0, λ l d lt. k.1 l d (omega (arith, lt, le)) ∙ h.1 l d lt)
 
--- the names after one run was put in at f, with a new name
+-- the ids after one segment is inserted at f, with a new id
 pub record IdsAfter (f : ℕ) (old new : List Run) : Type 0 where
   pub size : length new ≡ length old + 1
   pub inside : f ≤ length old
@@ -90,7 +90,7 @@ names_after f old new h names =
           (cases_lt k f);
     }
 
--- and before that
+-- if the ids after it are distinct, so were those before it
 pub names_before : (f : ℕ) (old new : List Run) → IdsAfter f old new → HaveNames new → HaveNames old
 names_before f old new h names =
     let fresh : (i : ℕ) (d : Run) → i < length new → i ≢ f → (get_or new i d).id < length old = λ i d li ne.
@@ -127,7 +127,7 @@ names_before f old new h names =
 pub same_after : (k f : ℕ) (old new : List Run) → IdsAfter f old new → k ≤ f → SameBefore k old new
 same_after k f old new h le = (omega (arith, le, h.inside), λ j d lt. h.before j d (omega (arith, lt, le)))
 
--- where the new run stands
+-- the index of the part with the new id
 pub split_ids : (old new : List Run) (k m : ℕ) → k < length old → (s : IsSplit old new k m) →
     (s.run.back ≡ true → IdsAfter k old new) × (s.run.back ≡ false → IdsAfter (k + 1) old new)
 split_ids old new k m lt s =
@@ -191,14 +191,14 @@ split_same old new k m lt s =
     (λ (e : s.run.back ≡ false). same_after k (k + 1) old new ((split_ids old new k m lt s).1 e) (omega arith))
     (cases_bool s.run.back)
 
--- runs of the same name and the same places
+-- segments with the same id, the same positions and the same successor
 pub record AreAlike (r s : Run) : Type 0 where
   pub id : r.id ≡ s.id
   pub low : r.low ≡ s.low
   pub high : r.high ≡ s.high
   pub next : r.next ≡ s.next
 
--- the k-th of the new runs is like the p-th of the old ones, where R says so
+-- the k-th of the new segments is like the p-th of the old ones if R relates k to p
 pub record AreReordered (R : ℕ → ℕ → Type 0) (old new : List Run) : Type 0 where
   pub size : length new ≡ length old
   pub from : (k : ℕ) → k < length old → (p : ℕ) × (p < length old) × R k p
@@ -266,7 +266,7 @@ reordered_found R n bucket old new table h found =
       early = λ b lb lt. holds _ _ (found.early b lb lt);
     }
 
--- the run of a name, by the table of where runs stand
+-- segments are found by their ids if they are found through `home`
 pub found_by_names : (n bucket : ℕ) (runs : List Run) (home table : List ℕ) → AreFound n bucket runs home table →
     CanBeFound n bucket runs table
 found_by_names n bucket runs home table h = record {
@@ -301,7 +301,7 @@ found_by_home n bucket runs home table named h = record {
   early = λ b lb lt. holds_as runs home _ _ named (h.early b lb lt);
 }
 
--- runs that change twice
+-- segments that change twice
 pub StayFound-trans : (n bucket : ℕ) (xs ys zs : List Run) (r s t : List ℕ) → StayFound n bucket xs ys r s →
     StayFound n bucket ys zs s t → StayFound n bucket xs zs r t
 StayFound-trans n bucket xs ys zs r s t h k = record {
@@ -311,7 +311,7 @@ StayFound-trans n bucket xs ys zs r s t h k = record {
   table_size = k.table_size ∙ h.table_size;
 }
 
--- runs that are turned round after a cut, over the front of their vector
+-- segments reversed after a split, and written to the front of their vector
 pub StayFound-front : (n bucket size : ℕ) (old cut told new rest : List Run) (before table : List ℕ) → told ≡ cut →
     length new ≡ size → StayFound n bucket old cut before table → AreLaidOut n new → (HaveNames told → HaveNames new) →
     ((t : List ℕ) → CanBeFound n bucket told t → CanBeFound n bucket new t) →
@@ -327,7 +327,7 @@ StayFound-front n bucket size old cut told new rest before table e l h laid name
       table_size = h.table_size;
     })
 
--- one more run that stands where its name says
+-- `home` is updated for one more segment
 pub named_more : (runs : List Run) (home : List ℕ) (k : ℕ) (none : Run) → HaveNames runs → k < length runs →
     length runs ≤ length home →
     AreNamedTo k runs home → AreNamedTo (k + 1) runs (set home (get_or runs k none).id k)

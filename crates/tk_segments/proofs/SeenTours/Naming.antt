@@ -1,4 +1,4 @@
--- Names of runs: what stays when a run is parted, or runs are turned round.
+-- What a split or a reversal keeps of the ids of segments.
 use Rattle.std.proofs.Common.{◌≡◌, ◌≢◌, ℕ, true, false, ◌+◌, ◌-◌, ◌<◌, ◌≤◌, ◌⊎◌, inl, inr, ⊎_elim, suc, zero, List, ◌∷◌}
 use Rattle.std.proofs.Common.{◌++◌, length, take, drop, sym, ap, ◌∙◌, subst, arith, get_or}
 use Rattle.std.proofs.lemmas.Bool.{cases_lt}
@@ -8,7 +8,7 @@ use Rattle.tk_segments.specs.Runs.{IsSplit, AreNamed, Names, Holds}
 use Rattle.tk_segments.specs.declared.run.Run.{Run}
 use Rattle.tk_segments.proofs.SeenTours.Splitting.{cases_bool}
 
--- the run of a name stands where the name says
+-- the segment with an id is at the index that `home` has
 pub named_home : (runs : List Run) (home : List ℕ) (id lo : ℕ) (d : Run) → AreNamed runs home → (h : Names runs id lo) →
     (get_or home id 0 < length runs) × ((get_or runs (get_or home id 0) d).low ≡ lo)
 named_home runs home id lo d named h =
@@ -28,7 +28,7 @@ pub named_less : (runs : List Run) (home : List ℕ) (id lo : ℕ) (d : Run) →
     id < length runs
 named_less runs home id lo d named h = omega (arith, named h.0 d h.1, (h.2 d).0)
 
--- where the entries of a split list come from
+-- the entries of a list in which one entry is split in two
 pub entry_before : (us ws : List Run) (one two : Run) (i k : ℕ) (d : Run) → length us ≡ k → i < k →
     get_or (us ++ (one ∷ two ∷ ws)) i d ≡ get_or us i d
 entry_before us ws one two i k d l lt = get_or_append_left us (one ∷ two ∷ ws) d i (omega (arith, l))
@@ -37,7 +37,7 @@ pub entry_from : (us ws : List Run) (one two : Run) (i k : ℕ) (d : Run) → le
     get_or (us ++ (one ∷ two ∷ ws)) i d ≡ get_or (one ∷ two ∷ ws) (i - k) d
 entry_from us ws one two i k d l le = get_or-append_right us (one ∷ two ∷ ws) k i d l le
 
--- the names of runs stay when one is parted
+-- a split keeps the ids of the segments
 pub Names-split : (old new : List Run) (k m : ℕ) (id lo : ℕ) → k < length old → IsSplit old new k m → Names old id lo →
     Names new id lo
 Names-split old new k m id lo lt s h =
@@ -106,8 +106,7 @@ Names-split old new k m id lo lt s h =
     (cases_lt k j))
     (cases_lt j k)
 
--- a new list whose first runs are old ones, and whose other runs come from the parted one: each run of it is an old
--- one, or one of the two parts
+-- each segment after a split is an old one other than the split one, or one of the two parts
 pub split_entry : (old new : List Run) (k m i : ℕ) (d : Run) → k < length old → (s : IsSplit old new k m) →
     i < length new →
     ((j : ℕ) × (j < length old) × (j ≢ k) × (get_or new i d ≡ get_or old j d))
@@ -165,7 +164,7 @@ split_at old new k m d lt s =
           ∙ ap (λ u. get_or (s.one ∷ s.two ∷ ws) u d) e1,
     )
 
--- the entries before the parted run, and those after it
+-- the entries before the segment that is split, and below those after it
 pub split_entry_before : (old new : List Run) (k m i : ℕ) (d : Run) → k < length old → IsSplit old new k m → i < k →
     get_or new i d ≡ get_or old i d
 split_entry_before old new k m i d lt s a =
@@ -185,7 +184,7 @@ split_entry_beyond old new k m i d lt s a =
     ∙ ap (λ u. get_or (s.one ∷ s.two ∷ ws) u d) e0
     ∙ get_or-drop (k + 1) old (i - (k + 1)) d ∙ ap (λ u. get_or old u d) (omega (arith, a))
 
--- each run of a split still names the one that begins where it ends
+-- after a split, each segment still has the id of the one that begins where it ends
 pub split_next : (n : ℕ) (old new : List Run) (k m : ℕ) → k < length old → IsSplit old new k m →
     ((j : ℕ) (d : Run) → j < length old → (get_or old j d).high < n →
     Names old (get_or old j d).next (get_or old j d).high) →

@@ -1,4 +1,4 @@
--- Runs placed one after another.
+-- Segments placed one after another.
 use Rattle.std.proofs.Common.{◌≡◌, ℕ, ◌+◌, ◌<◌, suc, List, [], ◌∷◌, ◌++◌, length, take, drop, set, refl, sym, ap, ◌∙◌}
 use Rattle.std.proofs.Common.{arith, get_or}
 use Rattle.std.specs.Prelude.{sum_by}
@@ -18,7 +18,7 @@ pub length-placed : (v : ℕ) (xs : List Run) → length (placed v xs) ≡ lengt
 length-placed v [] = refl
 length-placed v (x ∷ xs) = ap suc (length-placed (v + run_size x) xs)
 
--- the step of a loop that places them
+-- one step of a loop that places them
 pub placed-more : (v w k : ℕ) (xs ys : List Run) (x d : Run) → k < length xs → ys ≡ placed v (take k xs) ++ drop k xs →
     w ≡ v + sum_by run_size (take k xs) →
     x ≡ get_or xs k d → set ys k (record x { start = w }) ≡ placed v (take (k + 1) xs) ++ drop (k + 1) xs
@@ -34,7 +34,7 @@ placed-more v w k xs ys x d lt e f g =
     ∙ ap (λ (u : Run). A ++ record u { start = w } ∷ drop (k + 1) xs) g
     ∙ sym (ap (λ u. u ++ drop (k + 1) xs) front ∙ append_assoc A (record y { start = w } ∷ []) (drop (k + 1) xs))
 
--- where they begin does not count for what they show
+-- what segments show does not depend on their starts
 pub shown-placed : (order : List ℕ) (v : ℕ) (xs : List Run) → shown order (placed v xs) ≡ shown order xs
 shown-placed order v [] = refl
 shown-placed order v (x ∷ xs) = ap (λ w. shown_by order x ++ w) (shown-placed order (v + run_size x) xs)

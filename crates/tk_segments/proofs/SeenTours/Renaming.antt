@@ -1,4 +1,4 @@
--- Runs that have changed stand where their names say, and are found, when they are named again.
+-- After an update of `home`, segments that have changed are found again.
 use Rattle.std.proofs.Common.{◌≡◌, ◌≤◌, ◌*◌, ◌++◌, ◌∙◌, ℕ, List, length, take, subst, arith}
 use Rattle.tk_segments.specs.Runs.{AreNamed, CanBeFound, AreFound}
 use Rattle.tk_segments.specs.declared.run.Run.{Run}
@@ -6,7 +6,7 @@ use Rattle.tk_segments.specs.declared.runs.Runs.{Runs}
 use Rattle.tk_segments.proofs.Fronts.{at_front}
 use Rattle.tk_segments.proofs.SeenTours.Names.{found_by_home}
 
--- what is kept where the names and the table are written over the fronts of their vectors
+-- the invariants of the segments, with a new `home` and a new table
 pub record AreRenamed (s : Runs) (runs : List Run) (home table : List ℕ) : Type 0 where
   pub named : AreNamed runs home
   pub found : AreFound s.size 32 runs home table

@@ -1,4 +1,4 @@
--- Runs turned round or begun elsewhere are the same runs in another order.
+-- Reversed or rotated segments are the old segments in another order.
 use Rattle.std.proofs.Common.{◌≡◌, ℕ, ◌+◌, ◌-◌, ◌<◌, ◌≤◌, ◌⊎◌, inl, inr, ⊎_elim, suc, zero, List, [], ◌∷◌, ◌++◌, length}
 use Rattle.std.proofs.Common.{take, drop, map, refl, sym, ap, ◌∙◌, arith, get_or}
 use Rattle.std.specs.Prelude.{reverse}
@@ -33,7 +33,7 @@ turned_alike k [] d lt = absurd (omega arith)
 turned_alike zero (x ∷ xs) d lt = record { id = refl; low = refl; high = refl; next = refl }
 turned_alike (suc k) (x ∷ xs) d lt = turned_alike k xs d (omega arith)
 
--- the k-th run was the p-th before those from i up to j were turned round
+-- the k-th segment was the p-th before those from i to j - 1 were reversed
 abbrev pub IsMirrored : ℕ → ℕ → ℕ → ℕ → Type 0
 IsMirrored i j k p =
     ((k < i) × (p ≡ k)) ⊎ (((i ≤ k) × (k < j) × (p + k + 1 ≡ i + j)) ⊎ ((j ≤ k) × (p ≡ k)))
@@ -63,7 +63,7 @@ mirrored_one i j k l p h g =
     a)
     h
 
--- each place has a mirror, which mirrors it
+-- each index has a mirror image, whose mirror image it is
 pub record Mirror (i j m k : ℕ) : Type 0 where
   pub p : ℕ
   pub within : p < m
@@ -163,7 +163,7 @@ turned_same i j first old part le lj ep = (
   λ k d lt. (turned_entry i j first k k old part d le lj ep (omega (arith, lt, le, lj)) (inl (lt, refl))).id,
 )
 
--- the k-th run was the p-th before the runs were begun at the r-th
+-- the k-th segment was the p-th before the m segments were rotated to begin with the r-th
 abbrev pub IsBegun : ℕ → ℕ → ℕ → ℕ → Type 0
 IsBegun m r k p = ((k + r < m) × (p ≡ k + r)) ⊎ ((m ≤ k + r) × (p + m ≡ k + r) × (k < m))
 

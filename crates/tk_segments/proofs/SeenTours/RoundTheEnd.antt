@@ -1,4 +1,4 @@
--- A reversal that goes round the end of what the runs show: they are begun elsewhere first.
+-- A reversal that goes past the end of the sequence, which is rotated first.
 use Rattle.std.proofs.Common.{◌≡◌, ℕ, ◌+◌, ◌-◌, ◌<◌, ◌≤◌, ⊎_elim, inl, inr, List, length, sym, ap, ◌∙◌, subst, arith}
 use Rattle.std.proofs.lemmas.Bool.{cases_lt}
 use Rattle.tk_tour.specs.Reversal.{begun_at, reversed_places}
@@ -6,7 +6,7 @@ use Rattle.tk_tour.proofs.StoredTours.Places.{AtPlace, length-begun_at}
 use Rattle.tk_tour.proofs.StoredTours.Reversing.{at_place, place_cases}
 use Rattle.tk_segments.proofs.SeenTours.Showing.{begun_at-compose, reversed_places-begun}
 
--- the list begins at b, and its k-th place is seen at `first`
+-- the list begins at b, and its position k is `first` in the sequence
 pub turned_inside : (b k first count : ℕ) (seen new : List ℕ) → b < length seen → k < length seen →
     first < length seen → count ≤ length seen → AtPlace (length seen) b k first →
     new ≡ reversed_places first count seen → begun_at b new ≡ reversed_places k count (begun_at b seen)
@@ -31,8 +31,8 @@ places_moved n b b' k first e lb lk le lf low lb' g h =
     (place_cases n b k first h))
     (place_cases n e b' b g))
 
--- the same where it goes round the end: the runs are begun at e, what the list begins with is seen at b', and the
--- reversal at first - e
+-- like `turned_inside`, but for a reversal past the end: the sequence is rotated to begin at e, then the list begins at
+-- b', and the reversal at first - e
 pub turned_round : (b b' k first count e : ℕ) (seen moved new : List ℕ) → b < length seen → b' < length seen →
     k < length seen → first < length seen → count ≤ length seen → e < length seen → e ≤ first →
     AtPlace (length seen) b k first → AtPlace (length seen) e b' b → moved ≡ begun_at e seen →

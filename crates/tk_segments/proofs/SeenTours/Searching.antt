@@ -1,4 +1,4 @@
--- Where runs begin, and what is seen at a place.
+-- The starts of segments, and the entry at a position of the sequence.
 use Rattle.std.proofs.Common.{◌≡◌, ℕ, ◌+◌, ◌-◌, ◌<◌, ◌≤◌, suc, zero, List, [], ◌∷◌, ◌++◌, length, take, drop, sym, ap}
 use Rattle.std.proofs.Common.{◌∙◌, subst, arith, get_or, ⊎_elim}
 use Rattle.std.specs.Prelude.{sum_by}
@@ -20,7 +20,7 @@ start-placed v zero (x ∷ xs) d lt = omega arith
 start-placed v (suc k) (x ∷ xs) d lt = start-placed (v + run_size x) k xs d (omega arith)
     ∙ omega (arith, sum_by-cons run_size x (take k xs))
 
--- where the k-th run begins
+-- the start of the k-th segment
 pub start_is : (n k : ℕ) (xs : List Run) (d : Run) → AreLaidOut n xs → k < length xs →
     (get_or xs k d).start ≡ sum_by run_size (take k xs)
 start_is n k xs d h lt = ap (λ u. (get_or u k d).start) h.starts ∙ start-placed 0 k xs d lt ∙ omega arith
@@ -32,7 +32,7 @@ pub sum_more : (k : ℕ) (xs : List Run) (d : Run) → k < length xs →
     sum_by run_size (take (k + 1) xs) ≡ sum_by run_size (take k xs) + run_size (get_or xs k d)
 sum_more k xs d lt = ap (sum_by run_size) (take_more xs k d lt) ∙ sum_by_push run_size (take k xs) (get_or xs k d)
 
--- what is seen at v, which is shown by the k-th run
+-- the entry at position v of the sequence, which is in the k-th segment
 pub shown_at : (n k v : ℕ) (xs : List Run) (d : Run) (order : List ℕ) → AreLaidOut n xs → k < length xs →
     n ≤ length order →
     sum_by run_size (take k xs) ≤ v → v < sum_by run_size (take (k + 1) xs) →
@@ -60,7 +60,7 @@ sum_mono i j xs le =
     ap (sum_by run_size) (take-take i j xs le) in
     omega (arith, a, b, c)
 
--- the runs that begin before a split
+-- the segments that start before a split
 pub split_before : (old new : List Run) (k d i v : ℕ) (x : Run) → k < length old → IsSplit old new k d →
     v < sum_by run_size (take (k + 1) old) → i ≤ length old → sum_by run_size (take i old) ≤ v →
     sum_by run_size (take i new) ≡ sum_by run_size (take i old)

@@ -1,4 +1,4 @@
--- Which place of the array is seen where, and what an exchange of two cities shows.
+-- The array position of each position of the sequence, and how a swap of two cities changes the sequence.
 use Rattle.std.proofs.Common.{◌≡◌, ◌≢◌, ℕ, Bool, true, false, ◌+◌, ◌-◌, ◌<◌, ◌≤◌, ⊎_elim, List, [], ◌∷◌, length}
 use Rattle.std.proofs.Common.{drop, set, refl, sym, ap, ◌∙◌, arith, get_or}
 use Rattle.std.specs.Prelude.{reverse, if◌then◌else◌}
@@ -11,7 +11,7 @@ use Rattle.tk_tour.proofs.Tours.{places_differ}
 use Rattle.tk_segments.specs.Runs.{stretch, shown_by, shown, run_size, shown_place, IsWithin}
 use Rattle.tk_segments.specs.declared.run.Run.{Run}
 
--- each of the runs is
+-- each of the segments is a range of an array of n positions
 pub data AreWithin (n : ℕ) : List Run → Type 0 where
   none : AreWithin n []
   more : {r : Run} {rs : List Run} → IsWithin n r → AreWithin n rs → AreWithin n (r ∷ rs)
@@ -42,7 +42,7 @@ entry_if true order lo hi d lt le ld =
 entry_if false order lo hi d lt le ld =
     get_or-take (hi - lo) (drop lo order) d 0 ld ∙ get_or-drop lo order d 0
 
--- what a run shows
+-- the entries that a segment shows
 pub get_or-shown_by : (n : ℕ) (order : List ℕ) (r : Run) (d : ℕ) → IsWithin n r → n ≤ length order → d < run_size r →
     get_or (shown_by order r) d 0 ≡ get_or order (shown_place r d) 0
 get_or-shown_by n order r d h le ld = entry_if r.back order r.low r.high d h.0 (omega (arith, h)) ld
@@ -97,7 +97,7 @@ once_at xs i j once li lj e =
     (cases_lt j i))
     (cases_lt i j)
 
--- two cities exchanged at the places that are seen at v and w
+-- two cities swapped at array positions p and q, which are positions v and w of the sequence
 pub record Exchanges (n : ℕ) (some order : List ℕ) (runs : List Run) (v w p q : ℕ) : Type 0 where
   pub within : AreWithin n runs
   pub sizes : (length order ≡ n) × (length some ≡ n) × (length (shown some runs) ≡ n)
@@ -153,7 +153,7 @@ shown-exchanged n some order runs v w p q x y h =
     (cases_eq u v))
     (cases_eq u w))
 
--- two places that are seen apart are apart
+-- distinct positions of the sequence are distinct array positions
 pub seen_apart : (n : ℕ) (some order : List ℕ) (runs : List Run) (v w p q : ℕ) →
     Exchanges n some order runs v w p q → p ≢ q
 seen_apart n some order runs v w p q h =

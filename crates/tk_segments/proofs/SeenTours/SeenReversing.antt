@@ -1,4 +1,4 @@
--- A reversal by exchanges of cities that are seen through runs.
+-- A reversal of positions of the sequence by swaps of two cities.
 use Rattle.std.proofs.Common.{◌≡◌, ℕ, ◌+◌, ◌-◌, ◌<◌, ◌≤◌, ◌/◌, ⊎_elim, List, length, set, refl, sym, ◌∙◌, subst, arith}
 use Rattle.std.proofs.Common.{get_or}
 use Rattle.std.proofs.lemmas.List.{length-set}
@@ -10,11 +10,11 @@ use Rattle.tk_segments.specs.declared.run.Run.{Run}
 use Rattle.tk_segments.proofs.SeenTours.SeenPlaces.{AreWithin, Exchanges, shown-exchanged, seen_apart}
 use Rattle.tk_tour.proofs.StoredTours.Reversing.{IsInverse-exchange, Mirroring, Mirroring-more, Mirroring-all}
 
--- the place p is seen at v
+-- array position p is position v of the sequence
 abbrev pub SeenAt : ℕ → List Run → ℕ → ℕ → Type 0
 SeenAt n runs v p = (p < n) × ((xs : List ℕ) → n ≤ length xs → get_or (shown xs runs) v 0 ≡ get_or xs p 0)
 
--- the state between two exchanges: what is seen is reversed so far, and the array of places still is the inverse of the
+-- the state between two swaps: the sequence is partly reversed, and the array of positions is still the inverse of the
 -- array
 pub record Exchanging (n first count t low high : ℕ) (begin order place : List ℕ) (runs : List Run) : Type 0 where
   pub within : AreWithin n runs

@@ -1,4 +1,4 @@
--- What runs show: parted, turned round, and begun elsewhere.
+-- The sequence after segments are split, reversed and rotated.
 use Rattle.std.proofs.Common.{◌≡◌, ℕ, Bool, true, false, ◌+◌, ◌-◌, ◌<◌, ◌≤◌, ⊎_elim, List, [], ◌∷◌, ◌++◌, length, take}
 use Rattle.std.proofs.Common.{drop, refl, sym, ap, ◌∙◌, subst, arith, get_or}
 use Rattle.std.specs.Prelude.{reverse, not, if◌then◌else◌}
@@ -14,7 +14,7 @@ use Rattle.tk_tour.proofs.StoredTours.TurnedWithin.{turned_within, turned_within
 use Rattle.tk_segments.specs.Runs.{stretch, shown_by, shown}
 use Rattle.tk_segments.specs.declared.run.Run.{Run}
 
--- a stretch in two parts
+-- a range in two parts
 pub stretch-parts : (lo q hi : ℕ) (xs : List ℕ) → lo ≤ q → q ≤ hi → stretch lo hi xs ≡ stretch lo q xs
     ++ stretch q hi xs
 stretch-parts lo q hi xs le1 le2 =
@@ -28,7 +28,7 @@ stretch-parts lo q hi xs le1 le2 =
     ap (λ v. take v ys) whole ∙ sym (take-append-drop a (take (a + b) ys))
     ∙ ap (λ v. v ++ drop a (take (a + b) ys)) front ∙ ap (λ v. take a ys ++ v) back
 
--- the two parts of a run, as they are seen
+-- the two parts of a segment, in array order
 pub record ArePartsOf (run low high : Run) (q : ℕ) : Type 0 where
   pub low_is : (low.low ≡ run.low) × (low.high ≡ q) × (low.back ≡ run.back)
   pub high_is : (high.low ≡ q) × (high.high ≡ run.high) × (high.back ≡ run.back)
@@ -64,7 +64,7 @@ shown_by-behind order run low high q h e =
     ∙ ap (λ v. v ++ reverse (stretch low.low low.high order)) (sym (behind order high (h.high_is.2 ∙ e)))
     ∙ ap (λ v. shown_by order high ++ v) (sym (behind order low (h.low_is.2 ∙ e)))
 
--- a run in the midst that is parted
+-- a segment between others, split in two
 pub shown-parted : (order : List ℕ) (us vs : List Run) (run one two : Run) → shown_by order run ≡ shown_by order one
     ++ shown_by order two →
     shown order (us ++ one ∷ two ∷ vs) ≡ shown order (us ++ run ∷ vs)
@@ -74,7 +74,7 @@ shown-parted order us vs run one two e =
     ∙ ap (λ v. v ++ shown order vs) (sym e))
     ∙ sym (flat_map-append (shown_by order) us (run ∷ vs))
 
--- one run turned round
+-- one segment reversed
 pub record IsTurned (r s : Run) : Type 0 where
   pub low : s.low ≡ r.low
   pub high : s.high ≡ r.high
@@ -91,7 +91,7 @@ shown_by-turned order r s h =
     ∙ ap (λ b. if b then reverse (stretch r.low r.high order) else stretch r.low r.high order) h.back
     ∙ turn_stretch r.back (stretch r.low r.high order)
 
--- runs turned round one by one
+-- segments reversed one by one
 pub data AreTurned : List Run → List Run → Type 0 where
   none : AreTurned [] []
   more : {r s : Run} {rs ss : List Run} → IsTurned r s → AreTurned rs ss → AreTurned (r ∷ rs) (s ∷ ss)
@@ -113,12 +113,12 @@ turned_each order _ _ (AreTurned.more {r} {s} {rs} {ss} h t) =
     ap (λ v. v ++ shown order ss) (shown_by-turned order r s h)
     ∙ ap (λ v. reverse (shown_by order r) ++ v) (turned_each order rs ss t)
 
--- runs turned round in reverse order show the reverse
+-- segments reversed in reverse order show the reverse
 pub shown-turned : (order : List ℕ) (rs ss : List Run) → AreTurned (reverse rs) ss →
     shown order ss ≡ reverse (shown order rs)
 shown-turned order rs ss h = turned_each order (reverse rs) ss h ∙ sym (reverse-flat_map (shown_by order) rs)
 
--- the reversal of a part in the midst
+-- the reversal of a part in the middle
 pub reversed_places-midst : (us vs ws : List ℕ) →
     us ++ (reverse vs ++ ws) ≡ reversed_places (length us) (length vs) (us ++ (vs ++ ws))
 reversed_places-midst us vs ws =
@@ -136,7 +136,7 @@ reversed_places-midst us vs ws =
     ∙ ap (λ v. us ++ (reverse vs ++ v)) e4 in
     sym e ∙ turned_within-is k m xs le
 
--- a turn of runs is the reversal of the places that they show
+-- the reversal of segments is the reversal of the positions that they show
 pub shown-turn : (order : List ℕ) (us rs ss ws : List Run) → AreTurned (reverse rs) ss →
     shown order (us ++ (ss ++ ws)) ≡ reversed_places (length (shown order us)) (length (shown order rs))
     (shown order (us ++ (rs ++ ws)))
@@ -151,7 +151,7 @@ shown-turn order us rs ss ws h =
     ∙ ap (λ v. A ++ v) (flat_map-append f ss ws) ∙ ap (λ v. A ++ (v ++ C)) (shown-turned order rs ss h) in
     new ∙ reversed_places-midst A B C ∙ ap (reversed_places (length A) (length B)) (sym old)
 
--- runs begun at another one show the list begun elsewhere
+-- segments rotated to begin with another one show a rotation
 pub shown-begun : (order : List ℕ) (us ws : List Run) →
     shown order (ws ++ us) ≡ begun_at (length (shown order us)) (shown order (us ++ ws))
 shown-begun order us ws =
@@ -163,7 +163,7 @@ shown-begun order us ws =
     ∙ sym (ap (begun_at (length A)) e ∙ ap (λ v. v ++ take (length A) (A ++ C)) (drop_at A C (length A) refl)
     ∙ ap (λ v. C ++ v) (take_at A C (length A) refl))
 
--- the entry of a list begun at i after it was begun at f
+-- the entries of a list rotated to begin at f, and then at i
 begun_entry : (xs : List ℕ) (f i p j : ℕ) → f ≤ length xs → i < length xs → p < length xs → AtPlace (length xs) f i p →
     j < length xs →
     get_or (begun_at i (begun_at f xs)) j 0 ≡ get_or (begun_at p xs) j 0
@@ -205,7 +205,7 @@ begun_entry xs f i p j lf li lp h lj =
     (cases_lt (p + j) n))
     (cases_lt (f + i) n)
 
--- begun at f, and then at its i-th place
+-- a rotation to f, and then to position i of the result
 pub begun_at-compose : (xs : List ℕ) (f i p : ℕ) → f ≤ length xs → i < length xs → p < length xs →
     AtPlace (length xs) f i p →
     begun_at i (begun_at f xs) ≡ begun_at p xs
@@ -215,7 +215,7 @@ begun_at-compose xs f i p lf li lp h =
     ext_get_or 0 (begun_at i (begun_at f xs)) (begun_at p xs) (l ∙ sym (length-begun_at p xs))
     (λ j lj. begun_entry xs f i p j lf li lp h (omega (arith, l)))
 
--- a reversal of places does not mind where the list is begun
+-- a reversal of positions does not depend on where the list begins
 pub reversed_places-begun : (xs : List ℕ) (f k p m : ℕ) → f ≤ length xs → k < length xs → p < length xs →
     AtPlace (length xs) f k p → m ≤ length xs →
     begun_at f (reversed_places p m xs) ≡ reversed_places k m (begun_at f xs)

@@ -1,4 +1,4 @@
--- A run parted in two: the same is seen, and the runs are still laid out.
+-- A segment split in two: the sequence stays, and the segments are still laid out.
 use Rattle.std.proofs.Common.{◌≡◌, ℕ, Bool, true, false, ◌+◌, ◌-◌, ◌<◌, ◌⊎◌, inl, inr, ⊎_elim, zero, List, [], ◌∷◌}
 use Rattle.std.proofs.Common.{◌++◌, length, take, drop, refl, sym, ap, ◌∙◌, subst, arith, get_or}
 use Rattle.std.specs.Prelude.{sum_by}
@@ -35,7 +35,7 @@ shown_by-parts order d id run one two h =
     (of_parts (run.low + d) id run one two (h.ahead e)) e)
     (cases_bool run.back)
 
--- what the parts keep of the run
+-- the sizes of the two parts, which are ranges of the array
 pub record PartFacts (n d : ℕ) (run one two : Run) : Type 0 where
   pub within_one : IsWithin n one
   pub within_two : IsWithin n two
@@ -61,7 +61,7 @@ part_facts n d id run one two h w ld =
     })
     (cases_bool run.back)
 
--- the parts have as many places as the run
+-- the parts have as many positions as the segment
 pub parted_size : (us ws : List Run) (run one two : Run) → run_size one + run_size two ≡ run_size run →
     sum_by run_size (us ++ (one ∷ two ∷ ws)) ≡ sum_by run_size (us ++ run ∷ ws)
 parted_size us ws run one two e =
@@ -80,7 +80,7 @@ pub old_is : (old : List Run) (k : ℕ) (run : Run) → k < length old → run �
 old_is old k run lt e = sym (take-append-drop k old)
     ∙ ap (λ u. take k old ++ u) (drop_more old k run lt ∙ ap (λ u. u ∷ drop (k + 1) old) (sym e))
 
--- a split shows the same
+-- a split does not change the sequence
 pub split_shows : (order : List ℕ) (old new : List Run) (k d : ℕ) → k < length old → IsSplit old new k d →
     shown order new ≡ shown order old
 split_shows order old new k d lt h =

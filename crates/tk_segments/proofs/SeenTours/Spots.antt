@@ -1,4 +1,4 @@
--- Spots: which place of the array is seen where, and what is seen beside it.
+-- Spots: their positions in the array and in the sequence, and their neighbours.
 use Rattle.std.proofs.Common.{◌≡◌, ℕ, true, false, ◌+◌, ◌-◌, ◌<◌, ◌≤◌, ◌⊎◌, ⊎_elim, List, length, take, refl, sym, ap}
 use Rattle.std.proofs.Common.{◌∙◌, subst, arith, get_or}
 use Rattle.std.specs.Prelude.{sum_by, if◌then◌else◌}
@@ -15,7 +15,7 @@ shown_ahead r d e = ap (λ b. if b then r.high - 1 - d else r.low + d) e
 pub shown_behind : (r : Run) (d : ℕ) → r.back ≡ true → shown_place r d ≡ r.high - 1 - d
 shown_behind r d e = ap (λ b. if b then r.high - 1 - d else r.low + d) e
 
--- what is known of the run of a spot, which begins at s
+-- facts about the segment of a spot, which starts at s
 pub record SpotFacts (n s v : ℕ) (runs : List Run) (spot : Spot) (run : Run) : Type 0 where
   pub index_in : spot.index < length runs
   pub start : s ≡ sum_by run_size (take spot.index runs)
@@ -64,7 +64,7 @@ is_spot n v runs spot run d e lt from to place =
           ∙ ap (λ r. shown_place r (v - sum_by run_size (take k runs))) (e ∙ get_or_default runs k d d' lt);
     }
 
--- what is seen at v
+-- the entry at position v of the sequence
 pub spot_shows : (n v : ℕ) (runs : List Run) (spot : Spot) (order : List ℕ) (none : Run) → AreLaidOut n runs →
     n ≤ length order → IsSpot runs v spot →
     get_or (shown order runs) v 0 ≡ get_or order spot.place 0
@@ -92,7 +92,7 @@ spot_held n s v runs spot run f =
     ))
     (cases_bool run.back)
 
--- the place of a spot within its run, from where it is seen
+-- the position in the sequence of a spot d positions after the start of its segment
 pub spot_of_place : (n d p : ℕ) (runs : List Run) (spot : Spot) (run none : Run) → AreLaidOut n runs →
     run ≡ get_or runs spot.index none → spot.index < length runs →
     d < run_size run → p ≡ shown_place run d → spot.place ≡ p → IsSpot runs (run.start + d) spot × (run.start + d < n)
@@ -114,12 +114,12 @@ spot_of_place n d p runs spot run none laid e lt ld ep es =
       ),
     )
 
--- w comes right after v, within one run
+-- w comes right after v, in one segment
 pub within_run : (n s v w size : ℕ) → IsAfterPlace n v w → s ≤ v → v + 1 < s + size → s + size ≤ n → w ≡ v + 1
 within_run n s v w size h from to le =
     ⊎_elim (λ (a : (v + 1 < n) × (w ≡ v + 1)). a.1) (λ (a : (v + 1 ≡ n) × (w ≡ 0)). absurd (omega (arith, a, to, le))) h
 
--- the run before the first one is the last
+-- the segment before the first one is the last
 pub before_first : (n s v w k : ℕ) (runs : List Run) (spot new : Spot) (run prev d : Run) → AreLaidOut n runs →
     SpotFacts n s w runs spot run → IsAfterPlace n v w → w ≡ s →
     ((spot.index ≡ 0) × (k + 1 ≡ length runs)) ⊎ ((0 < spot.index) × (k + 1 ≡ spot.index)) →
@@ -168,7 +168,7 @@ pub last_behind : (n s v : ℕ) (runs : List Run) (spot : Spot) (run : Run) → 
     run.back ≡ true → spot.place ≤ run.low → v + 1 ≡ s + run_size run
 last_behind n s v runs spot run f b le = omega (arith, f.behind b, f.inside, f.low_high, le)
 
--- the run after the last one is the first
+-- the segment after the last one is the first
 pub after_last : (n s v w k : ℕ) (runs : List Run) (spot new : Spot) (run next d : Run) → AreLaidOut n runs →
     SpotFacts n s v runs spot run → IsAfterPlace n v w → v + 1 ≡ s + run_size run →
     ((spot.index + 1 ≡ length runs) × (k ≡ 0)) ⊎ ((spot.index + 1 < length runs) × (k ≡ spot.index + 1)) →

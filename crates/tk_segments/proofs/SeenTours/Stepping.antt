@@ -1,4 +1,4 @@
--- A reversal by exchanges of cities that are seen from both ends on, spot by spot.
+-- A reversal by swaps of cities, from both ends inwards, spot by spot.
 use Rattle.std.proofs.Common.{◌≡◌, ℕ, ◌+◌, ◌-◌, ◌<◌, ◌≤◌, ◌/◌, ⊎_elim, inl, inr, List, length, set, refl, arith}
 use Rattle.std.proofs.Common.{get_or}
 use Rattle.std.proofs.lemmas.Bool.{cases_lt}
@@ -19,7 +19,7 @@ spot_seen n v runs spot laid h = (
   λ order le. spot_shows n v runs spot order no_run laid le h,
 )
 
--- after t exchanges the next two cities are shown by `low` and before `high`
+-- after t swaps, the next two cities are at `low` and just before `high`
 pub record Stepping (n first count t : ℕ) (low high : Spot) (begin order place : List ℕ)
     (runs : List Run) : Type 0 where
   pub low_v : ℕ
@@ -29,7 +29,7 @@ pub record Stepping (n first count t : ℕ) (low high : Spot) (begin order place
   pub exchanging : Exchanging n first count t low_v high_v begin order place runs
   pub written : changed begin order ≤ t + t
 
--- the place before, and the one after
+-- the position before w on a cycle of n positions, and below the one after v
 pub record Before (n w : ℕ) : Type 0 where
   pub v : ℕ
   pub after : IsAfterPlace n v w

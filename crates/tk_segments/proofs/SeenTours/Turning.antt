@@ -1,4 +1,4 @@
--- Runs of the midst turned round: what they show, and that they are still laid out.
+-- Reversed segments between others: what they show, and that all of them are still laid out.
 use Rattle.std.proofs.Common.{◌≡◌, ℕ, ◌+◌, ◌-◌, ◌≤◌, suc, zero, List, [], ◌∷◌, ◌++◌, length, take, drop, map, refl, sym}
 use Rattle.std.proofs.Common.{ap, ◌∙◌, subst, arith}
 use Rattle.std.specs.Prelude.{reverse, sum_by}
@@ -84,7 +84,7 @@ sum_sizes-reverse (x ∷ xs) =
       sum_by-cons run_size x xs,
     )
 
--- the three parts of runs that are laid out
+-- the three parts of segments that are laid out
 pub record Parts (n : ℕ) (old us rs ws : List Run) : Type 0 where
   pub whole : old ≡ us ++ (rs ++ ws)
   pub within_us : AreWithin n us

@@ -1,4 +1,4 @@
--- What is written is paid by swaps: a potential.
+-- The swaps pay for the writes: an amortized analysis with a potential.
 use Rattle.std.proofs.Common.{◌≡◌, ℕ, ◌+◌, ◌-◌, ◌*◌, ◌/◌, ◌<◌, ◌≤◌, ◌^◌, Bool, ⊎_elim, length, subst, ap, arith}
 use Rattle.std.specs.Prelude.{if◌then◌else◌}
 use Rattle.std.proofs.lemmas.Bool.{cases_lt, le-leb, lt-leb}
@@ -16,12 +16,12 @@ times_less a b c le = grind arith
 factor : (a b c : ℕ) → 1 ≤ a → a * b ≤ a * c → b ≤ c
 factor a b c some le = grind arith
 
--- a reversal by exchanges of two cities each
+-- after a reversal by swaps
 pub paid_exchange : (n room writes runs swaps more : ℕ) → ArePaid n room writes runs swaps →
     ArePaid n room (writes + 2 * more) runs (swaps + more)
 paid_exchange n room writes runs swaps more h = record { some = h.some; paid = grind (arith, h.paid) }
 
--- one by runs, of which there are at most two more
+-- after a reversal of segments, which adds at most two of them
 pub paid_turn : (n room writes runs swaps runs' more least : ℕ) → ArePaid n room writes runs swaps → 1 ≤ runs' →
     runs' ≤ runs + 2 → n ≤ room * least → least ≤ more →
     ArePaid n room writes runs' (swaps + more)
@@ -33,7 +33,7 @@ paid_turn n room writes runs swaps runs' more least h some two enough le =
     let d : room * (swaps + more) ≡ room * swaps + room * more = grind arith in
     record { some = some; paid = omega (arith, a, b, c, d, enough, h.paid) }
 
--- the array is written again when there is no room for two more
+-- after the array is rewritten, because there is no room for two more segments
 pub paid_rewrite : (n room writes runs swaps : ℕ) → ArePaid n room writes runs swaps → room + 1 ≤ runs →
     ArePaid n room (writes + n) 1 swaps
 paid_rewrite n room writes runs swaps h full =
@@ -46,7 +46,7 @@ writes_bound n room writes runs swaps some h =
     let b : 2 * (room * swaps) ≡ room * (2 * swaps) = grind arith in
     factor room writes (2 * swaps) some (omega (arith, h.paid, b))
 
--- how many places are written to make room for two more runs, and to reverse `count` places
+-- how many array positions are written to make room for two more segments, and below to reverse `count` positions
 pub room_cost-none : (tour : SeenTour) → run_count_of tour ≤ room_of tour → room_cost tour ≡ 0
 room_cost-none tour le =
     ap (λ (b : Bool). if b then 0 else length (list_of tour)) (le-leb (run_count_of tour) (room_of tour) le)
@@ -64,7 +64,7 @@ pub reversal_cost-long : (tour : SeenTour) (count : ℕ) → tour.short < count 
 reversal_cost-long tour count lt =
     ap (λ (b : Bool). if b then 2 * (count / 2) else room_cost tour) (lt-leb count tour.short lt)
 
--- counters that stand still at their greatest value
+-- counters that saturate at their maximum
 paid_saturated : (n room writes runs swaps : ℕ) → ArePaid n room writes runs swaps → 1 ≤ room → n ≤ 100000 →
     runs ≤ 100000 →
     ArePaid n room (saturated writes) runs (saturated swaps)
@@ -83,7 +83,7 @@ paid_saturated n room writes runs swaps h some small few =
     record { some = h.some; paid = omega (arith, a, h.paid, ap (λ u. 2 * (room * u)) e) })
     (cases_lt greatest swaps)
 
--- two of them count the swaps
+-- `counted`, the sum of two such counters, is at least the saturated number of swaps
 pub paid_counted : (n room writes runs swaps counted : ℕ) → ArePaid n room writes runs swaps → 1 ≤ room → n ≤ 100000 →
     runs ≤ 100000 → saturated swaps ≤ counted →
     ArePaid n room (saturated writes) runs counted
@@ -91,13 +91,13 @@ paid_counted n room writes runs swaps counted h some small few le =
     let k = paid_saturated n room writes runs swaps h some small few in
     record { some = k.some; paid = omega (arith, k.paid, less_times room (saturated swaps) counted le) }
 
--- runs are joined
+-- after segments are joined
 pub paid_fewer : (n room writes runs swaps runs' : ℕ) → ArePaid n room writes runs swaps → 1 ≤ runs' → runs' ≤ runs →
     ArePaid n room writes runs' swaps
 paid_fewer n room writes runs swaps runs' h some le =
     record { some = some; paid = omega (arith, h.paid, less_times n (runs' - 1) (runs - 1) (omega (arith, le))) }
 
--- fewer writes
+-- with fewer writes
 paid_less : (n room writes writes' runs swaps : ℕ) → writes' ≤ writes → ArePaid n room writes runs swaps →
     ArePaid n room writes' runs swaps
 paid_less n room writes writes' runs swaps le h =

@@ -1,4 +1,4 @@
--- The array written as it is seen.
+-- The sequence written to a list.
 use Rattle.std.proofs.Common.{◌≡◌, ℕ, ◌+◌, ◌<◌, ◌≤◌, List, [], ◌∷◌, ◌++◌, length, take, drop, sym, ap, ◌∙◌}
 use Rattle.std.proofs.Common.{subst, arith, get_or}
 use Rattle.std.specs.Prelude.{sum_by}
@@ -10,7 +10,7 @@ use Rattle.tk_segments.specs.declared.run.Run.{Run}
 use Rattle.tk_segments.proofs.SeenTours.SeenPlaces.{length-shown_by}
 use Rattle.tk_segments.proofs.SeenTours.Searching.{start_is, sum_more, sum_all, sum_mono}
 
--- where the k-th run is written
+-- the positions to which the k-th segment is written
 pub record WrittenAt (n k : ℕ) (runs : List Run) (run : Run) : Type 0 where
   pub within : IsWithin n run
   pub start : run.start ≡ sum_by run_size (take k runs)
@@ -33,7 +33,7 @@ written_at n k runs run d laid lt e =
     } in
     subst P (sym e) f
 
--- one more run is written
+-- one more segment is written
 pub written_more : (n k : ℕ) (runs : List Run) (run d : Run) (order list new : List ℕ) → AreLaidOut n runs →
     k < length runs → run ≡ get_or runs k d → n ≤ length order → length list ≡ n →
     take (sum_by run_size (take k runs)) list ≡ shown order (take k runs) →
@@ -76,7 +76,7 @@ length-written n k runs run d order list new laid lt e le ll f =
       ll,
     )
 
--- all are written
+-- all segments are written
 pub written_all : (n k : ℕ) (runs : List Run) (order list : List ℕ) → AreLaidOut n runs → length runs ≤ k →
     length list ≡ n →
     take (sum_by run_size (take k runs)) list ≡ shown order (take k runs) → list ≡ shown order runs

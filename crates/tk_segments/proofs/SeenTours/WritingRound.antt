@@ -1,15 +1,15 @@
--- A list that is written from its k-th place on and goes round its end.
+-- A list that is written from position `begin` on, and past its end from its start.
 use Rattle.std.proofs.Common.{◌≡◌, ℕ, ◌+◌, ◌-◌, ◌≤◌, List, ◌++◌, length, take, drop, take-add, sym, ap, ◌∙◌, arith}
 use Rattle.std.proofs.lemmas.List.{append_assoc, length-append, length-take-le, length-drop, drop-drop}
 use Rattle.std.proofs.lemmas.List.{take-append-drop, take-append-le, drop-append-le, take_at, drop_at}
 use Rattle.std.proofs.Math.Seq.{take-append-add, drop-append-add}
 use Rattle.tk_tour.specs.Reversal.{begun_at}
 
--- what is written over a part of a list
+-- a list after a part of it is overwritten
 abbrev pub put_in : ℕ → List ℕ → List ℕ → List ℕ
 put_in at part list = take at list ++ (part ++ drop (at + length part) list)
 
--- a part that is written before the end
+-- a part that is written before position `begin`
 pub written_before : (n begin at : ℕ) (list part new : List ℕ) → length list ≡ n → begin ≤ n →
     at + length part ≤ begin →
     new ≡ put_in (at + (n - begin)) part list → begun_at (n - begin) new ≡ put_in at part (begun_at (n - begin) list)

@@ -8,7 +8,7 @@ use Rattle.tk_segments.proofs.SeenTours.Joining.{join_found, parted}
 use Rattle.tk_segments.proofs.joining.join_parts.Goals as goal
 use Rattle.tk_segments.proofs.joining.join_parts.Goals.{After-put_joined}
 
--- the runs before are those of now with the joined one split in two
+-- the segments before the join are those after it, with the joined one split in two
 split : (c : After-put_joined) →
     (s : IsSplit c.put_joined.new.runs.items c.args.runs.now.items c.args.k (run_size c.index.result.now))
     × (s.run ≡ c.in-Some.run') × (c.args.k < length c.put_joined.new.runs.items)
@@ -29,7 +29,7 @@ laid c =
     join_laid c.args.size c.put_joined.new.runs.items c.args.runs.now.items c.args.k (run_size c.index.result.now) s.2
     c.requires.laid s.0
 
--- the joined run is one of the array
+-- the joined segment is a range of the array
 within : (c : After-put_joined) → IsWithin c.args.size c.in-Some.run'
 within c =
     let s = split c in

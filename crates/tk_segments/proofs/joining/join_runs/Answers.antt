@@ -9,7 +9,7 @@ use Rattle.tk_segments.proofs.NoRun.{no_run}
 use Rattle.tk_segments.proofs.SeenTours.Searching.{start_is, sum_all, sum_more, sum_mono}
 use Rattle.tk_segments.proofs.joining.join_runs.Goals as goal
 
--- a run begins within the array
+-- the start of a segment is within the array
 begins_in : (n k : ℕ) (xs : List Run) (run : Run) → AreLaidOut n xs → k < length xs → run ≡ get_or xs k run →
     (run.start < n) × (run.start ≡ sum_by run_size (take k xs))
 begins_in n k xs run laid lt e =

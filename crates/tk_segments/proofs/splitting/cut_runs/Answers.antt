@@ -12,7 +12,7 @@ use Rattle.tk_segments.proofs.SeenTours.Names.{split_names, split_same}
 use Rattle.tk_segments.proofs.splitting.cut_runs.Goals as goal
 use Rattle.tk_segments.proofs.splitting.cut_runs.Goals.{After-index}
 
--- the k-th run shows what is seen at v
+-- the k-th segment contains position v of the sequence
 record ShowsAt (k v : ℕ) (runs : List Run) (run : Run) : Type 0 where
   index_in : k < length runs
   run_is : run ≡ get_or runs k run
@@ -20,7 +20,7 @@ record ShowsAt (k v : ℕ) (runs : List Run) (run : Run) : Type 0 where
   from : run.start ≤ v
   to : v < sum_by run_size (take (k + 1) runs)
 
--- the run that is found
+-- the segment that is found
 shows_at : (c : After-index) → ShowsAt c.index_at-k.result c.args.v c.args.runs.now.items c.index.result.now
 shows_at c =
     let xs = c.args.runs.now.items in
@@ -39,7 +39,7 @@ shows_at c =
       to = h.2;
     }
 
--- the same run under another name, which goes on beyond v
+-- a segment read at the same index is the same one, and extends past position v
 goes_on : (k v : ℕ) (xs : List Run) (r run : Run) → ShowsAt k v xs r → run ≡ get_or xs k run →
     (run ≡ r) × (v - r.start < run_size run)
 goes_on k v xs r run h e =

@@ -15,7 +15,7 @@ begun_table c =
     c.deref_mut-2.ensures.value
     ∙ at_front P _ _ _ (omega (arith, c.begin_seen.ensures.kept.table_size, c.deref_mut.ensures.len, s.table.ok.0)) refl
 
--- the runs that are begun and turned are named again
+-- `home` is updated for the segments that are rotated and reversed
 begun : (c : After-name_runs) →
     AreRenamed c.args.self.now c.turn_rest.new.runs.items
     (take c.args.self.now.home.len (c.name_runs.new.home

@@ -9,7 +9,7 @@ use Rattle.tk_segments.proofs.SeenTours.Renaming.{AreRenamed, renamed}
 use Rattle.tk_segments.proofs.runs.Runs.join.Goals as goal
 use Rattle.tk_segments.proofs.runs.Runs.join.Goals.{After-name_runs}
 
--- the runs that are joined are named again
+-- `home` is updated for the segments that are joined
 joined : (c : After-name_runs) →
     AreRenamed c.args.self.now c.join_runs-first.new.runs.items
     (take c.args.self.now.home.len (c.name_runs.new.home

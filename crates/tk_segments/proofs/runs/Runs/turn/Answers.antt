@@ -5,7 +5,7 @@ use Rattle.tk_segments.proofs.SeenTours.Renaming.{AreRenamed, renamed}
 use Rattle.tk_segments.proofs.runs.Runs.turn.Goals as goal
 use Rattle.tk_segments.proofs.runs.Runs.turn.Goals.{After-name_runs}
 
--- the runs that are turned are named again
+-- `home` is updated for the segments that are reversed
 turned : (c : After-name_runs) →
     AreRenamed c.args.self.now c.turn_seen-k.new.runs.items
     (take c.args.self.now.home.len (c.name_runs.new.home

@@ -14,7 +14,7 @@ written : (c : After-exchange_seen) →
     ++ drop (length c.exchange_seen.new.order) c.args.self.now.order.items) ≡ c.exchange_seen.new.order
 written c = grind (arith, common_steps)
 
--- and shows the places in reverse order
+-- the sequence is reversed at these positions
 reversed : (c : After-exchange_seen) →
     shown c.exchange_seen.new.order c.args.self.now.runs.runs.items
     ≡ reversed_places c.args.first c.args.count (seen_of c.args.self.now)

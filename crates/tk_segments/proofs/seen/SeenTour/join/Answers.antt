@@ -7,7 +7,7 @@ use Rattle.tk_segments.proofs.SeenTours.Facts.{facts, begun_list}
 use Rattle.tk_segments.proofs.seen.SeenTour.join.Goals as goal
 use Rattle.tk_segments.proofs.seen.SeenTour.join.Goals.{Joined-first-self, then-first-self, else-first-self}
 
--- the list is as it was
+-- the list has not changed
 as_before : (c : Joined-first-self) →
     (begun_at c.if-first-self.self (shown c.args.self.now.order.items c.join-first.new.self.runs.items)
     ≡ list_of c.args.self.now)

@@ -10,7 +10,7 @@ use Rattle.tk_segments.proofs.SeenTours.Facts.{facts, seen_of}
 use Rattle.tk_segments.proofs.seen.SeenTour.rewrite.Goals as goal
 use Rattle.tk_segments.proofs.seen.SeenTour.rewrite.Goals.{After-swap}
 
--- the array is what was seen
+-- the array becomes the sequence
 written : (c : After-swap) → c.swap.new.x.items ≡ seen_of c.args.self.now
 written c =
     let s = c.args.self.now in

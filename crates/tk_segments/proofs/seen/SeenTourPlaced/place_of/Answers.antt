@@ -5,7 +5,7 @@ use Rattle.tk_segments.proofs.SeenTours.Facts.{facts, seen_of, city_stands, city
 use Rattle.tk_segments.proofs.seen.SeenTourPlaced.place_of.Goals as goal
 use Rattle.tk_segments.proofs.seen.SeenTourPlaced.place_of.Goals.{After-spot_of-v}
 
--- the city is what the spot shows
+-- the city is at its spot
 seen_there : (c : After-spot_of-v) → get_or (seen_of c.args.self.now) c.spot_of-v.result.1 0 ≡ c.args.c
 seen_there c =
     let s = c.args.self.now in

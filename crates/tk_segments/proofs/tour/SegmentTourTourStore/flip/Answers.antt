@@ -4,7 +4,7 @@ use Rattle.tk_tour.proofs.StoredTours.Sides.{IsFlipped, flipped}
 use Rattle.tk_segments.proofs.tour.SegmentTourTourStore.flip.Goals as goal
 use Rattle.tk_segments.proofs.tour.SegmentTourTourStore.flip.Goals.{After-reverse}
 
--- the list is flipped
+-- the list after the flip
 list_flipped : (c : After-reverse) →
     IsFlipped (list_of c.args.self.now.seen) (list_of c.reverse.new.self.seen) c.shorter_side-first.result.0
     c.shorter_side-first.result.1 c.args.a c.args.b c.args.c c.args.d
