@@ -1,4 +1,4 @@
--- The end of a trial, by the tours of a search.
+-- The end of a trial, in terms of the tours of a search.
 use Rattle.std.specs.Prelude.{◌≡◌, ℕ, ◌+◌, ◌<◌, ◌≤◌, true, false, length}
 use Rattle.tk_tour.specs.Counters.{saturated}
 use Rattle.tk_tour.specs.JournalTours.{swaps_of, undo_swaps_of, flips_of, copied_of, slots_of, flips_since}
@@ -13,8 +13,9 @@ use Rattle.tk_search.specs.declared.trials.totals.TrialReport.{TrialReport}
 abbrev pub all_copied : {S : Type 0} → {u : undo.Ghosts S} → {s : Ghosts S} → State S u s → ℕ
 all_copied state = copied_of state.tour + copied_to state.best
 
--- From the state before a descent of so many flips to that after it: they are counted with their swaps. The result is
--- copied, or the flips since the last settle are undone, or where they outran the slots the best is copied back.
+-- From the state before a descent to that after the trial: the flips of the descent are counted with their swaps. Then
+-- a better result is copied. Otherwise the flips since the tour was last settled are undone. If there are more of them
+-- than slots in the journal, the best tour is copied back instead.
 pub record EndsTrial {S : Type 0} {u : undo.Ghosts S} {s : Ghosts S} (flips swaps : ℕ) (old new : State S u s)
     (report : TrialReport) : Type 0 where
   pub flips_are : flips_of new.tour ≡ saturated (flips_of old.tour + flips)

@@ -8,11 +8,11 @@ use Rattle.tk_search.specs.declared.trials.searching.Search.{Search}
 use Rattle.tk_search.specs.declared.trials.stand.Stand.{Stand}
 use Rattle.tk_search.specs.declared.trials.stand.Stand.TheVariants.{Array, Segments}
 
--- a search, whatever its store
+-- a search, whichever store it has
 abbrev pub stands_at : (ℕ → ℕ → ℕ) → NearLists → SearchRules → Stand → Searching
 stands_at distance near rules (Array state) = searching distance near rules state
 stands_at distance near rules (Segments state) = searching distance near rules state
 
--- a search, whatever its metric
+-- a search, whichever metric it has
 abbrev pub search_of : {M : Type 0} → {m : Ghosts M} → Search M m → Searching
 search_of {M} {m} s = stands_at (m.distance s.metric.now) s.near.now s.rules s.stand

@@ -23,8 +23,8 @@ use Rattle.tk_search.specs.declared.trials.state.State.{State}
 use Rattle.tk_search.specs.declared.trials.totals.Totals.{Totals}
 use Rattle.tk_search.specs.declared.trials.totals.TrialReport.{TrialReport}
 
--- The distances, the near lists and the rules of a search, the best tour so far, and what was counted. The flips are in
--- none of the totals: the tour counts them.
+-- The distances, the near lists and the rules of a search, the best tour so far, the number of flips, and the totals.
+-- The flips are not in the totals; the tour counts them.
 pub record Searching : Type 0 where
   pub distance : ℕ → ℕ → ℕ
   pub near : NearLists
@@ -44,7 +44,7 @@ searching distance near rules state = record {
   totals = state.totals;
 }
 
--- what a search was given stays as it was
+-- the input of a search does not change
 pub record SameGiven (old new : Searching) : Type 0 where
   pub distance : new.distance ≡ old.distance
   pub near : new.near ≡ old.near
@@ -78,8 +78,8 @@ pub record IsFirstTrial (old new : Searching) (report : TrialReport) : Type 0 wh
   pub settles : SettlesTrial (length old.best) trial.flips trial.swaps old.totals new.totals report
   pub bounded : IsBoundedTrial (length old.best) old.near.width (length old.best) old.rules report
 
--- A later trial: a descent from a kick of the best tour by four flips. Where the kick does not wake all cities, it
--- wakes at most 8.
+-- A later trial: a descent from a kick of the best tour by four flips. The kick wakes at most 8 cities, unless it wakes
+-- all of them.
 pub record IsKickedTrial (old : Searching) (words : Stream) (new : Searching) (rest : Stream)
     (report : TrialReport) : Type 0 where
   pub given : SameGiven old new
@@ -96,7 +96,7 @@ pub record IsKickedTrial (old : Searching) (words : Stream) (new : Searching) (r
       (kick_swaps (length old.best) kick.cuts + trial.swaps) old.totals new.totals report
   pub bounded : IsBoundedTrial (length old.best) old.near.width 8 old.rules report
 
--- no trial: both lengths are the best tour's, and nothing was counted
+-- a trial that does nothing: its lengths are that of the best tour, and its counters are 0
 pub record IsNoTrial (search : Searching) (report : TrialReport) : Type 0 where
   pub flags : (report.kicked ≡ false) × (report.better ≡ false)
   pub before : report.descent.before ≡ pos (tour_length search.distance search.best)
@@ -104,8 +104,8 @@ pub record IsNoTrial (search : Searching) (report : TrialReport) : Type 0 where
   pub counts : (report.passes ≡ 0) × (report.descent.moves ≡ 0) × (report.descent.looks ≡ 0)
       × (report.descent.tests ≡ 0) × (report.descent.swaps ≡ 0)
 
--- The next trial: the first one; a kicked one, which draws its cuts from the stream of random words; on fewer than 8
--- cities none.
+-- The next trial: the first one, or a kicked one, which draws its cuts from the random stream. On fewer than 8 cities,
+-- trials after the first do nothing.
 pub data NextTrial (old : Searching) (words : Stream) (new : Searching) (rest : Stream)
     (report : TrialReport) : Type 0 where
   first : old.totals.trials ≡ 0 → IsFirstTrial old new report → rest ≡ words → NextTrial old words new rest report
@@ -114,13 +114,13 @@ pub data NextTrial (old : Searching) (words : Stream) (new : Searching) (rest : 
   none : 1 ≤ old.totals.trials → length old.best < 8 → IsNoTrial old report → new ≡ old → rest ≡ words →
       NextTrial old words new rest report
 
--- t trials from a search and a stream of random words, to the search after them and the words that are left
+-- t trials, from a search and a random stream to the search after them and the rest of the stream
 pub data SearchRun (begun : Searching) (words : Stream) : ℕ → Searching → Stream → Type 0 where
   begin : SearchRun begun words 0 begun words
   trial : {t : ℕ} {old new : Searching} {left rest : Stream} {report : TrialReport} → SearchRun begun words t old left →
       NextTrial old left new rest report → SearchRun begun words (t + 1) new rest
 
--- what holds between two trials
+-- the invariant between two trials
 pub record IsSearching {S : Type 0} {u : undo.Ghosts S} {s : Ghosts S} (size : ℕ) (distance : ℕ → ℕ → ℕ)
     (near : NearLists) (rules : SearchRules) (state : State S u s) : Type 0 where
   pub cities : size ≡ length (best_of state.best)

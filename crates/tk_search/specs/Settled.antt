@@ -7,7 +7,7 @@ use Rattle.tk_tour.specs.declared.undo.UndoStore as undo
 use Rattle.tk_search.specs.Best.{best_of}
 use Rattle.tk_search.specs.declared.trials.best.Best.{Best}
 
--- the tour stands as the best does, and is settled there
+-- the tour has the order of the best tour, and is settled with it
 pub record IsAtBest {S : Type 0} {u : undo.Ghosts S} {s : Ghosts S} (tour : JournalTour S u s)
     (best : Best) : Type 0 where
   pub order : cities_of tour ≡ best_of best

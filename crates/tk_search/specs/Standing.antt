@@ -1,4 +1,4 @@
--- What holds between two trials, whatever the store.
+-- The invariant between two trials, for either store.
 use Rattle.std.specs.Prelude.{ℕ}
 use Rattle.std.proofs.Props.{props}
 use Rattle.tk_near.specs.Near.{NearLists}
@@ -11,7 +11,7 @@ abbrev pub IsStanding : ℕ → (ℕ → ℕ → ℕ) → NearLists → SearchRu
 IsStanding size distance near rules (Array state) = IsSearching size distance near rules state
 IsStanding size distance near rules (Segments state) = IsSearching size distance near rules state
 
--- a fact, which a search carries
+-- the invariant is a proposition, so that a search can have it as a ghost field
 pub IsStanding-prop : (size : ℕ) (distance : ℕ → ℕ → ℕ) (near : NearLists) (rules : SearchRules) (stand : Stand) →
     IsProp (IsStanding size distance near rules stand)
 IsStanding-prop size distance near rules (Array state) = Prim.hlevel props

@@ -1,7 +1,7 @@
 -- The totals of a search.
 --     AddsTrial old new report gain      the totals after one more trial
---     SettlesTrial n flips swaps old new report      what it undoes or copies
---     AreCountsOf totals tour best      swaps and copies, as the tours count them
+--     SettlesTrial n flips swaps old new report      what the trial undoes or copies
+--     AreCountsOf totals tour best      swaps and copies are those that the tours have counted
 --     IsBounded n width rules shortest totals      the bounds on the work of a search
 use Rattle.std.specs.Prelude.{◌≡◌, ℕ, ◌+◌, ◌-◌, ◌*◌, ◌/◌, ◌^◌, ◌<◌, ◌≤◌, pos, ◌≤ℤ◌, min, true, false, if◌then◌else◌}
 use Rattle.tk_tour.specs.Counters.{saturated}
@@ -15,11 +15,11 @@ use Rattle.tk_search.specs.declared.trials.descending.SearchRules.{SearchRules}
 use Rattle.tk_search.specs.declared.trials.totals.Totals.{Totals}
 use Rattle.tk_search.specs.declared.trials.totals.TrialReport.{TrialReport}
 
--- a count of 128 bits, or its greatest value where the count is greater: there it stands still
+-- a counter of 128 bits, which saturates at its maximum
 abbrev pub capped : ℕ → ℕ
 capped count = min count (2 ^ 128 - 1)
 
--- one more trial, in which the tour became shorter by `gain`
+-- the totals after one more trial, whose descent shortened its tour by `gain`
 pub record AddsTrial (old new : Totals) (report : TrialReport) (gain : ℕ) : Type 0 where
   pub start : new.start ≡ old.start
   pub trials : new.trials ≡ capped (old.trials + 1)
@@ -29,14 +29,15 @@ pub record AddsTrial (old new : Totals) (report : TrialReport) (gain : ℕ) : Ty
   pub tests : new.tests ≡ capped (old.tests + report.descent.tests)
   pub passes : new.passes ≡ capped (old.passes + report.passes)
 
--- a count rises by so much, as long as it is below 2^64 - 1: there a counter of 64 bits stands still
+-- a count rises by `more` if it stays below 2^64 - 1, where a counter of 64 bits saturates, and otherwise by at most
+-- that
 pub record RisesBy (more old new : ℕ) : Type 0 where
   pub most : new ≤ old + more
   pub exact : new < 2 ^ 64 - 1 → new ≡ old + more
 
--- What a trial on n cities undoes or copies after its flips: so many, with so many swaps, which are counted. A better
--- result is copied to the best. Else the flips are undone by as many swaps again, or where they are more than n, the
--- best is copied back, and nothing else is undone or copied.
+-- What a trial on n cities undoes or copies after its flips, which are counted with their swaps. A better result is
+-- copied to the best tour. Otherwise the flips are undone by as many swaps. If there are more than n flips, the best
+-- tour is copied back instead. Nothing else is undone or copied.
 pub record SettlesTrial (n flips swaps : ℕ) (old new : Totals) (report : TrialReport) : Type 0 where
   pub counted : new.swaps ≡ saturated (old.swaps + swaps)
   pub taken : report.better ≡ true → (new.undo_swaps ≡ old.undo_swaps) × RisesBy n old.copied new.copied
@@ -45,7 +46,8 @@ pub record SettlesTrial (n flips swaps : ℕ) (old new : Totals) (report : Trial
   pub restored : report.better ≡ false → n < flips → (new.undo_swaps ≡ old.undo_swaps) × RisesBy n old.copied new.copied
   pub limits : (new.swaps < 2 ^ 64) × (new.undo_swaps ≤ new.swaps) × (new.copied < 2 ^ 65)
 
--- the swaps and the copies of a search are those of its tours, and no more swaps were undone than made
+-- the swaps and the copies of a search are those that its tours have counted, and at most as many swaps were undone as
+-- made
 pub record AreCountsOf {S : Type 0} {u : undo.Ghosts S} {s : Ghosts S} (totals : Totals) (tour : JournalTour S u s)
     (best : Best) : Type 0 where
   pub swaps : totals.swaps ≡ swaps_of tour
@@ -53,7 +55,8 @@ pub record AreCountsOf {S : Type 0} {u : undo.Ghosts S} {s : Ghosts S} (totals :
   pub copied : totals.copied ≡ copied_of tour + copied_to best
   pub undone : totals.undo_swaps ≤ totals.swaps
 
--- The work of a search on n cities with near lists of that width; the best tour has the length `shortest`.
+-- The bounds on the work of a search on n cities with near lists of this width, whose best tour has the length
+-- `shortest`.
 pub record IsBounded (n width : ℕ) (rules : SearchRules) (shortest : ℕ) (t : Totals) : Type 0 where
   pub tests : rules.sweep ≡ false → t.tests ≤ 4 * rules.or_segment * width * (n + 8 * (t.trials - 1) + 6 * t.moves)
   pub swept : rules.sweep ≡ true → t.tests ≤ 4 * rules.or_segment * width * (n * t.passes + 6 * t.moves)

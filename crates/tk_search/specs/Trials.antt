@@ -13,12 +13,12 @@ use Rattle.tk_search.specs.declared.double_bridges.cuts.Cuts.{Cuts}
 use Rattle.tk_search.specs.declared.trials.descending.SearchRules.{SearchRules}
 use Rattle.tk_search.specs.declared.trials.totals.TrialReport.{TrialReport}
 
--- what its descent made the tour shorter by
+-- by how much its descent shortened the tour
 abbrev pub gain_of : TrialReport → ℕ
 gain_of report = unsigned_abs (report.descent.before -ℤ report.descent.after)
 
--- A descent from a tour, with some cities awake, by at most three flips for each move. Its result becomes the best tour
--- where it is strictly shorter than that; else the best stays, element for element.
+-- A descent from a tour, with some cities awake, by at most three flips for each move. If its result is strictly
+-- shorter than the best tour, it becomes the best; otherwise the best stays, entry for entry.
 pub record IsTrial (dist : ℕ → ℕ → ℕ) (near : ℕ → List ℕ) (rules : SearchRules) (from awake best new : List ℕ)
     (report : TrialReport) : Type 0 where
   pub found : List ℕ
@@ -34,8 +34,8 @@ pub record IsTrial (dist : ℕ → ℕ → ℕ) (near : ℕ → List ℕ) (rules
   pub replaced : report.better ≡ true → new ≡ found
   pub kept : report.better ≡ false → new ≡ best
 
--- The work of a trial on n cities whose descent began with at most `awake` cities awake; each near list has `width`
--- entries.
+-- The bounds on the work of a trial on n cities, whose descent began with at most `awake` cities awake. Each near list
+-- has `width` entries.
 pub record IsBoundedTrial (n width awake : ℕ) (rules : SearchRules) (report : TrialReport) : Type 0 where
   pub moves : report.descent.moves ≤ gain_of report
   pub swaps : report.descent.swaps ≤ 3 * (n / 4) * report.descent.moves
@@ -47,8 +47,8 @@ pub record IsBoundedTrial (n width awake : ℕ) (rules : SearchRules) (report : 
   pub swept_tests : rules.sweep ≡ true →
       report.descent.tests ≤ 4 * rules.or_segment * width * (n * report.passes + 6 * report.descent.moves)
 
--- A kick of the tour `best` to the tour `kicked`: the double bridge at cuts that the stream of random words gives. It
--- wakes the ends of the four parts, or where all is swept all cities.
+-- A kick of the tour `best` to the tour `kicked`: the double bridge at cuts drawn from the random stream. It wakes the
+-- first and the last city of each part or, if descents are swept, all cities.
 pub record IsKick (best : List ℕ) (words : Stream) (sweep : Bool) (asleep kicked : List ℕ) (rest : Stream)
     (awake : List ℕ) : Type 0 where
   pub cuts : Cuts

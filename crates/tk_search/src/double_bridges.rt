@@ -1,4 +1,4 @@
-//! Kicks of a tour, by a double bridge.
+//! Kicks by the double bridge.
 
 pub mod cuts;
 pub mod kicking;

@@ -1,4 +1,4 @@
--- What the double bridge does to the length.
+-- The length of a tour after the double bridge.
 use Rattle.std.proofs.Common.{◌≡◌, ℕ, ℤ, ◌+◌, ◌≤◌, ◌+ℤ◌, ◌-ℤ◌, ◌≤ℤ◌, FitsSigned, List, ◌++◌, of_z, pos, to_z, w64, ap}
 use Rattle.std.proofs.Common.{arith, subst, sym, ◌∙◌}
 use Rattle.std.proofs.lemmas.Int.{ints, to_z-of_z}
@@ -10,7 +10,7 @@ use Rattle.tk_descent.proofs.MovesOnTours.Paths.{Spans}
 use Rattle.tk_descent.proofs.MovesOnTours.Views.{spans_of}
 use Rattle.tk_search.specs.Cuts.{steps_in, steps_out}
 
--- the way along four paths end to end, and round
+-- the length of a tour that consists of four paths
 length-four : (d : ℕ → ℕ → ℕ) (A B C D : List ℕ) (a1 an b1 bn c1 cn d1 dn : ℕ) → Spans A a1 an → Spans B b1 bn →
     Spans C c1 cn → Spans D d1 dn →
     tour_length d (A ++ B ++ C ++ D) ≡ inner d A + d an b1 + inner d B + d bn c1 + inner d C + d cn d1 + inner
@@ -27,7 +27,7 @@ length-four d A B C D a1 an b1 bn c1 cn d1 dn hA hB hC hD =
     )
 
 module _ (d : ℕ → ℕ → ℕ) (s : (a b : ℕ) → d a b ≡ d b a) where
-  -- the four steps taken out and the four put in are the difference of the whole lengths
+  -- the difference of the lengths is that of the four edges added and the four removed
   pub exchanged : (old new : List ℕ) (a1 an b1 bn c1 cn d1 dn : ℕ) (cut : CutInFour old a1 an b1 bn c1 cn d1 dn) →
       SameCycle new (cut.a ++ cut.d ++ cut.c ++ cut.b) →
       tour_length d new + (d an b1 + d bn c1 + d cn d1 + d dn a1) ≡ tour_length d
@@ -45,11 +45,11 @@ module _ (d : ℕ → ℕ → ℕ) (s : (a b : ℕ) → d a b ≡ d b a) where
         length-four d cut.a cut.d cut.c cut.b a1 an d1 dn c1 cn b1 bn hA hD hC hB,
       )
 
--- a number as the machine holds it
+-- a number converted to 64 bits and back
 abbrev held : ℤ → ℤ
 held v = to_z w64 (of_z w64 v)
 
--- the sum of four, and what is left of a length with more, as the machine reckons them
+-- a sum of four numbers, and below a length with edges removed and added, computed in 64 bits
 abbrev pub added_up : ℤ → ℤ → ℤ → ℤ → ℤ
 added_up r s t u = held (held (held (held r +ℤ held s) +ℤ held t) +ℤ held u)
 

@@ -1,4 +1,4 @@
--- The swaps of the four flips of a kick: each turns one part, or all others.
+-- The swaps of the four flips of a kick: each reverses one part, or all others.
 use Rattle.std.proofs.Common.{◌≡◌, ℕ, ◌+◌, ◌-◌, ◌*◌, ◌/◌, ◌≤◌, ◌⊎◌, inl, inr, List, ◌++◌, length, ap, ◌∙◌, arith}
 use Rattle.std.specs.Prelude.{min, reverse}
 use Rattle.std.proofs.lemmas.List.{append_assoc, length-append, length-reverse}
@@ -11,7 +11,7 @@ use Rattle.tk_search.specs.Cuts.{AreCuts, kick_swaps, turn_swaps}
 use Rattle.tk_search.specs.declared.double_bridges.cuts.Cuts.{Cuts}
 
 module _ {u : List ℕ} {a1 an b1 bn c1 cn d1 dn : ℕ} (k : CutInFour u a1 an b1 bn c1 cn d1 dn) where
-  -- all parts but the first
+  -- the first flip reverses all parts except the first, or the first
   pub first_side : (count : ℕ) → IsShorterSide u count an b1 dn a1 →
       count ≡ min (length k.a) (length k.b + (length k.c + length k.d))
   first_side count side =
@@ -20,7 +20,7 @@ module _ {u : List ℕ} {a1 an b1 bn c1 cn d1 dn : ℕ} (k : CutInFour u a1 an b
       (cycle-same u _ _ e k.cycle) in
       omega (arith, s, length-append k.b (k.c ++ k.d), length-append k.c k.d)
 
-  -- the fourth part
+  -- the second flip reverses the fourth part, or all others
   pub second_side : (t : List ℕ) (count : ℕ) → SameCycle t (((reverse k.c ++ reverse k.b) ++ k.a) ++ reverse k.d) →
       IsShorterSide t count an dn d1 cn → count ≡ min (length k.c + length k.b + length k.a) (length k.d)
   second_side t count h side =
@@ -38,7 +38,7 @@ module _ {u : List ℕ} {a1 an b1 bn c1 cn d1 dn : ℕ} (k : CutInFour u a1 an b
         length-reverse k.d,
       )
 
-  -- the third
+  -- the third flip reverses the third part, or all others
   pub third_side : (t : List ℕ) (count : ℕ) → SameCycle t (((reverse k.b ++ k.a) ++ k.d) ++ reverse k.c) →
       IsShorterSide t count dn cn c1 bn → count ≡ min (length k.b + length k.a + length k.d) (length k.c)
   third_side t count h side =
@@ -54,7 +54,7 @@ module _ {u : List ℕ} {a1 an b1 bn c1 cn d1 dn : ℕ} (k : CutInFour u a1 an b
         length-reverse k.c,
       )
 
-  -- the second
+  -- the fourth flip reverses the second part, or all others
   pub fourth_side : (t : List ℕ) (count : ℕ) → SameCycle t (((k.a ++ k.d) ++ k.c) ++ reverse k.b) →
       IsShorterSide t count cn bn b1 a1 → count ≡ min (length k.a + length k.d + length k.c) (length k.b)
   fourth_side t count h side =
@@ -69,7 +69,7 @@ turn_is n k x y count e sum (inr h) = ap (λ v. v / 2) (omega (arith, e, sum, h)
 saturated_twice : (s a b : ℕ) → saturated (saturated (s + a) + b) ≡ saturated (s + (a + b))
 saturated_twice s a b = omega arith
 
--- the swaps of four flips, by the parts that they turn
+-- the swaps of four flips, by the sizes of the parts that they reverse
 pub four_turns : (n : ℕ) (cuts : Cuts) (la lb lc ld m1 m2 m3 m4 s0 s1 s2 s3 s4 : ℕ) → AreCuts n cuts → la ≡ cuts.p →
     lb ≡ cuts.q - cuts.p → lc ≡ cuts.r - cuts.q → ld ≡ n - cuts.r →
     m1 ≡ min la (lb + (lc + ld)) → m2 ≡ min (lc + lb + la) ld → m3 ≡ min (lb + la + ld) lc →
@@ -99,7 +99,7 @@ four_turns n cuts la lb lc ld m1 m2 m3 m4 s0 s1 s2 s3 s4 are ea eb ec ed e1 e2 e
 turn_few : (n k : ℕ) → turn_swaps n k ≤ n / 4
 turn_few n k = omega arith
 
--- a kick takes few swaps
+-- a kick takes at most four times as many swaps as one flip can
 pub kick_few : (n : ℕ) (cuts : Cuts) → kick_swaps n cuts ≤ 4 * (n / 4)
 kick_few n cuts =
     omega (

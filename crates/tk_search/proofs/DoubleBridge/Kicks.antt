@@ -1,4 +1,4 @@
--- The four parts of a list of cities at cuts, by their ends.
+-- The four parts of a list of cities at cuts, and their ends.
 use Rattle.std.proofs.Common.{◌≡◌, ℕ, ◌+◌, ◌-◌, ◌<◌, ◌≤◌, inl, List, [], ◌++◌, length, map, get_or, take, drop, refl}
 use Rattle.std.proofs.Common.{sym, ap, ◌∙◌, subst, arith}
 use Rattle.std.proofs.Math.Seq.{take-length}
@@ -12,7 +12,7 @@ use Rattle.tk_search.specs.Cuts.{AreCuts, bridged, end_places, part_a, part_b, p
 use Rattle.tk_search.specs.declared.double_bridges.cuts.Cuts.{Cuts}
 use Rattle.tk_search.proofs.DoubleBridge.BridgeLength.{exchanged}
 
--- the places from i to below j are a path
+-- the entries at the indices from i to j - 1 are a path
 path : (xs : List ℕ) (i j from to : ℕ) → i < j → j ≤ length xs → get_or xs i 0 ≡ from → get_or xs (j - 1) 0 ≡ to →
     IsPath from (drop i (take j xs)) to
 path xs i j from to lt le ef et =
@@ -25,11 +25,11 @@ path xs i j from to lt le ef et =
     ∙ get_or-take j xs (i + (j - i - 1)) 0 (omega arith) ∙
     ap (λ v. get_or xs v 0) (omega arith) ∙ et)
 
--- what stands before the place i, and from there to below j
+-- the entries before index i, followed by those from i to j - 1
 joined : (xs : List ℕ) (i j : ℕ) → i ≤ j → take i xs ++ drop i (take j xs) ≡ take j xs
 joined xs i j le = ap (λ v. v ++ drop i (take j xs)) (sym (take-take i j xs le)) ∙ take-append-drop i (take j xs)
 
--- the parts make up the list
+-- the list consists of the parts
 pub parts_join : (xs : List ℕ) (cuts : Cuts) → AreCuts (length xs) cuts → part_a cuts xs ++ part_b cuts xs
     ++ part_c cuts xs ++ part_d cuts xs ≡ xs
 parts_join xs cuts are =
@@ -37,7 +37,7 @@ parts_join xs cuts are =
     ap (λ v. v ++ part_d cuts xs) (joined xs cuts.q cuts.r (omega (arith, are.third))) ∙
     take-append-drop cuts.r xs
 
--- a cut at eight ends, with as many cities in each part as the cuts leave there
+-- a list cut into four parts with these eight ends, and with the sizes of the cuts
 pub record SizedCut (xs e : List ℕ) (cuts : Cuts) : Type 0 where
   pub cut : CutInFour xs (get_or e 0 0) (get_or e 1 0) (get_or e 2 0) (get_or e 3 0) (get_or e 4 0) (get_or e 5 0)
       (get_or e 6 0) (get_or e 7 0)
@@ -46,7 +46,7 @@ pub record SizedCut (xs e : List ℕ) (cuts : Cuts) : Type 0 where
   pub c : length cut.c ≡ cuts.r - cuts.q
   pub d : length cut.d ≡ length xs - cuts.r
 
--- the list is cut in four at the ends of its parts
+-- the list is cut into four at the ends of its parts
 sized : (xs : List ℕ) (cuts : Cuts) → AreCuts (length xs) cuts →
     SizedCut xs (map (city_at xs) (end_places (length xs) cuts)) cuts
 sized xs cuts are =
@@ -88,7 +88,7 @@ module _ (xs e : List ℕ) (cuts : Cuts) (are : AreCuts (length xs) cuts)
       (get_or v 4 0) (get_or v 5 0) (get_or v 6 0) (get_or v 7 0) in
       subst P ends h (sized xs cuts are).cut
 
-  -- the lengths before and after, by the steps at the ends of the parts
+  -- the lengths before and after, and the edges at the ends of the parts
   pub length_at_ends : (d : ℕ → ℕ → ℕ) → ((a b : ℕ) → d a b ≡ d b a) → (ys : List ℕ) → SameCycle ys (bridged cuts xs) →
       tour_length d ys + steps_out d e ≡ tour_length d xs + steps_in d e
   unfolding sized

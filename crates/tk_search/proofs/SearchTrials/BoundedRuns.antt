@@ -1,4 +1,4 @@
--- The counts of runs of trials.
+-- The counters after runs of trials.
 use Rattle.std.proofs.Common.{◌≡◌, ℕ, ◌+◌, ◌<◌, ◌≤◌, ⊎_elim, inl, inr, length, refl, sym, ap, ◌∙◌, subst, arith}
 use Rattle.std.specs.Prelude.{◌⊎◌}
 use Rattle.std.proofs.lemmas.Int.{ints}
@@ -27,7 +27,7 @@ bounded_begun begun h = record {
   copied = omega (arith, h.none.6);
 }
 
--- the same bounds after a trial, which keeps what the search was given and how many cities there are
+-- the bounds hold after a trial, which changes neither the input of the search nor the number of cities
 bounded_given : (old new : Searching) → SameGiven old new → length new.best ≡ length old.best →
     IsBounded (length old.best) old.near.width old.rules (tour_length old.distance new.best) new.totals →
     IsBoundedSearch new
@@ -39,7 +39,7 @@ bounded_given old new g size h =
     (subst (λ v. B (length new.best) v old.rules old.distance) (sym g.near)
     (subst (λ v. B v old.near old.rules old.distance) (sym size) h)))
 
--- the work so far is bounded, and before the first trial there was none
+-- the work so far is bounded, and before the first trial no gains have been tested
 record IsWithin (search : Searching) : Type 0 where
   bounds : IsBoundedSearch search
   untried : search.totals.trials ≡ 0 → search.totals.tests ≡ 0
@@ -75,7 +75,7 @@ pub bounded_run : {begun : Searching} {words : Stream} {t : ℕ} {search : Searc
 bounded_run {begun = begun} run h =
     (within_run run (record { bounds = bounded_begun begun h; untried = λ e. h.none.3 })).bounds
 
--- each trial counts, where there are 8 cities
+-- each trial is counted if there are at least 8 cities
 counted_next : {old new : Searching} {words rest : Stream} {report : TrialReport} (t : ℕ) →
     NextTrial old words new rest report → old.totals.trials ≡ capped t → 8 ≤ length old.best →
     new.totals.trials ≡ capped (t + 1)
@@ -90,7 +90,7 @@ counted_run begin untried many = omega (arith, untried)
 counted_run (trial {t = t} run next) untried many =
     counted_next t next (counted_run run untried many) (omega (arith, many, (cities_after run).0))
 
--- On fewer than 8 cities: no trial yet, or one.
+-- on fewer than 8 cities: no trial so far, and below at least one, which are equivalent to one
 record AreNone (begun : Searching) (words : Stream) (t : ℕ) (after : Searching) (rest : Stream) : Type 0 where
   zero_trials : t ≡ 0
   search_is : after ≡ begun

@@ -15,7 +15,7 @@ top : (a x : ℕ) → capped (a * x) ≤ a * (2 ^ 128 - 1)
 top zero x = omega arith
 top (suc a) x = omega arith
 
--- a product is capped no lower than by its factor
+-- a saturated product is at most the one factor times the other one saturated
 capped_mul : (a k : ℕ) → capped (a * k) ≤ a * capped k
 capped_mul a k =
     ⊎_elim
@@ -37,7 +37,7 @@ more c A B C X x h k le =
 
 module _ {n width shortest : ℕ} {rules : SearchRules} {old new : Totals} {report : TrialReport}
     (adds : AddsTrial old new report (gain_of report)) (bound : IsBounded n width rules shortest old) where
-  -- what the count of better results becomes
+  -- the number of better results after the trial
   better_is : (b : Bool) → report.better ≡ b → new.better ≡ capped (old.better + (if b then 1 else 0))
   better_is b e = adds.better ∙ ap (λ v. capped (old.better + (if v then 1 else 0))) e
 

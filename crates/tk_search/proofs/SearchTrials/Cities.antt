@@ -1,4 +1,4 @@
--- The cities of a tour stay through moves, kicks, trials and runs of them.
+-- Moves, kicks, trials and runs of trials keep the cities of a tour.
 use Rattle.std.proofs.Common.{◌≡◌, ℕ, Bool, true, false, List, ◌++◌, length, refl, sym, ◌∙◌, subst, arith}
 use Rattle.std.proofs.lemmas.List.{length-append}
 use Rattle.rand_core.specs.Stream.{Stream}
@@ -51,7 +51,7 @@ cities_descent {dist} {near} {rules} {T} {W} {D} h = by rules.sweep refl
     by true e = cities_swept dist near rules.or_segment T (h.swept e)
     by false e = cities_run dist near rules.or_segment T W (h.once e).0
 
--- the second part and the fourth change places
+-- the second part and the fourth are swapped
 exchanged_parts : (a b c d : List ℕ) → HasSameCities (a ++ b ++ c ++ d) (a ++ d ++ c ++ b)
 exchanged_parts a b c d = (
   omega (
@@ -74,7 +74,7 @@ exchanged_parts a b c d = (
   ),
 )
 
--- the parts of a kick are those of the tour
+-- the parts of a kicked tour have the cities of the tour
 cities_bridged : (xs : List ℕ) (cuts : Cuts) → AreCuts (length xs) cuts → HasSameCities xs (bridged cuts xs)
 cities_bridged xs cuts are =
     subst (λ (v : List ℕ). HasSameCities v (bridged cuts xs)) (parts_join xs cuts are)
@@ -86,7 +86,7 @@ cities_kick {best = best} {tour = tour} h =
     cities-trans best (bridged h.cuts best) tour (cities_bridged best h.cuts h.are)
     (cities-sym tour (bridged h.cuts best) (cities-cycle tour (bridged h.cuts best) h.bridge))
 
--- the best tour after a trial from a tour of its cities
+-- the best tour after a trial has the same cities, if the trial starts from a tour of them
 cities_trial : {dist : ℕ → ℕ → ℕ} {near : ℕ → List ℕ} {rules : SearchRules} {from awake best new : List ℕ}
     {report : TrialReport} → IsTrial dist near rules from awake best new report → HasSameCities best from →
     HasSameCities best new

@@ -1,4 +1,4 @@
--- What runs of trials keep, and the best tour that they leave.
+-- What runs of trials keep, and the best tour after them.
 use Rattle.std.proofs.Common.{◌≡◌, ℕ, ◌<◌, ◌≤◌, ⊎_elim, Bool, true, false, List, [], ◌∷◌, ◌++◌, refl, sym, ap, ◌∙◌}
 use Rattle.std.proofs.Common.{subst, arith, append_assoc, append-nil}
 use Rattle.std.specs.Prelude.{IsTrue}
@@ -13,7 +13,7 @@ use Rattle.tk_search.specs.Trials.{IsTrial}
 use Rattle.tk_search.specs.declared.trials.descending.SearchRules.{SearchRules}
 use Rattle.tk_search.specs.declared.trials.totals.TrialReport.{TrialReport}
 
--- what a search was given stays
+-- the input of a search does not change
 pub given_next : {old new : Searching} {words rest : Stream} {report : TrialReport} →
     NextTrial old words new rest report → SameGiven old new
 given_next (first untried h same) = h.given
@@ -29,7 +29,7 @@ given_run (trial run next) =
     let k = given_next next in
     record { distance = k.distance ∙ i.distance; near = k.near ∙ i.near; rules = k.rules ∙ i.rules }
 
--- a trial keeps the first of the shortest
+-- the best tour after a trial is the first of the shortest, if it was before
 module _ {dist : ℕ → ℕ → ℕ} {near : ℕ → List ℕ} {rules : SearchRules} {from awake old new : List ℕ}
     {report : TrialReport} (h : IsTrial dist near rules from awake old new report) (tours : List (List ℕ))
     (f : IsFirstShortest dist tours old) where
@@ -88,7 +88,7 @@ first_run {begun = begun} (trial {old = old} {new = new} run next) =
     let same = (given_run run).distance in
     subst Q same (first_next next (begun.best ∷ found_in run) (subst P (sym same) (first_run run)))
 
--- the first of the shortest is not longer than the first
+-- the first of the shortest is not longer than the first of all
 no_longer : (dist : ℕ → ℕ → ℕ) (from best : List ℕ) (tours before behind : List (List ℕ)) →
     from ∷ tours ≡ before ++ best ∷ behind → All (λ tour. tour_length dist best < tour_length dist tour) before →
     tour_length dist best ≤ tour_length dist from

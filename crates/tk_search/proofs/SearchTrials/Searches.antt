@@ -25,7 +25,7 @@ use Rattle.tk_search.specs.declared.trials.state.State.{State}
 use Rattle.tk_search.specs.declared.trials.totals.TrialReport.{TrialReport}
 use Rattle.tk_search.proofs.SearchTrials.Bounds.{tests_first, tests_kicked, bounded_more}
 
--- the same trial in other words, with the same flips
+-- a trial from equal tours with equal cities awake, with as many flips and swaps
 pub trial_at : {dist : ℕ → ℕ → ℕ} {near : ℕ → List ℕ} {rules : SearchRules}
     {from from' awake awake' best best' new : List ℕ} {report : TrialReport} → from ≡ from' → awake ≡ awake' →
     best ≡ best' → (h : IsTrial dist near rules from awake best new report) →
@@ -35,7 +35,7 @@ trial_at {dist} {near} {rules} {from} {from'} {awake} {awake'} {best} {best'} {n
     × (t.flips ≡ h.flips) × (t.swaps ≡ h.swaps) in
     subst (P from' awake') eb (subst (λ v. P from' v best) ea (subst (λ v. P v awake best) ef (h, refl, refl)))
 
--- the same kick in other words, at the same cuts
+-- a kick of an equal tour, at the same cuts
 pub kick_at : {best best' asleep asleep' tour awake : List ℕ} {words rest : Stream} {sweep : Bool} → best ≡ best' →
     asleep ≡ asleep' → (k : IsKick best words sweep asleep tour rest awake) →
     (k' : IsKick best' words sweep asleep' tour rest awake) × (k'.cuts ≡ k.cuts)
@@ -43,7 +43,7 @@ kick_at {best} {best'} {asleep} {asleep'} {tour} {awake} {words} {rest} {sweep} 
     let P : List ℕ → List ℕ → Type 0 = λ b a. (k' : IsKick b words sweep a tour rest awake) × (k'.cuts ≡ k.cuts) in
     subst (P best') ea (subst (λ v. P v asleep) eb (k, refl))
 
--- the best tour after a trial is shorter, or the same
+-- after a trial, the best tour is shorter if the result was better, and otherwise has the same length
 module _ {dist : ℕ → ℕ → ℕ} {near : ℕ → List ℕ} {rules : SearchRules} {from awake best new : List ℕ}
     {report : TrialReport} (h : IsTrial dist near rules from awake best new report) where
   pub shorter_best : report.better ≡ true → tour_length dist new < tour_length dist best
@@ -62,7 +62,7 @@ few_ends asleep awake xs n cuts none e =
     woken_each-le (map (city_at xs) (end_places n cuts)) asleep in
     omega (arith, le, ap length e, ap length none)
 
--- at most as much work with more cities awake
+-- with more cities awake, the bounds are not smaller
 pub more_awake : (n width awake more : ℕ) (rules : SearchRules) (report : TrialReport) →
     (rules.sweep ≡ false → awake ≤ more) → IsBoundedTrial n width awake rules report →
     IsBoundedTrial n width more rules report
@@ -83,7 +83,7 @@ more_awake n width awake more rules report le h =
       swept_tests = h.swept_tests;
     }
 
--- what a trial leaves, by the state before it
+-- the state after a trial, in terms of the state before it
 pub record Leaves {S : Type 0} {u : undo.Ghosts S} {w : Ghosts S} (near : NearLists) (dist : ℕ → ℕ → ℕ)
     (rules : SearchRules) (s t : State S u w) (awake flips swaps : ℕ) (report : TrialReport) : Type 0 where
   pub size : length (best_of t.best) ≡ length (best_of s.best)
@@ -126,7 +126,7 @@ module _ {S : Type 0} {u : undo.Ghosts S} {w : Ghosts S} {size : ℕ} {dist : �
         (bounded_more k.adds h.bounds k.settles k.few k.swapped k.bounded k.less k.same tests);
   }
 
-  -- the tests of the trial, with so many cities awake
+  -- the bound on the tests of the trial, if n cities were awake
   tests_of : (n : ℕ) → awake ≡ n → rules.sweep ≡ false →
       report.descent.tests ≤ 4 * rules.or_segment * near.width * (n + 6 * report.descent.moves)
   tests_of n e once =

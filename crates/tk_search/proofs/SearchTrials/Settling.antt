@@ -1,4 +1,4 @@
--- What a trial undoes or copies, by its totals.
+-- What a trial undoes or copies, in terms of its totals.
 use Rattle.std.proofs.Common.{◌≡◌, ℕ, ◌+◌, ◌-◌, ◌^◌, ◌<◌, ◌≤◌, length, arith}
 use Rattle.tk_tour.specs.Counters.{saturated}
 use Rattle.tk_tour.specs.JournalTours.{swaps_of, undo_swaps_of, slots_of, flips_since, swaps_to_rewind}
@@ -11,14 +11,14 @@ use Rattle.tk_search.specs.declared.trials.state.State.{State}
 use Rattle.tk_search.specs.declared.trials.totals.Totals.{Totals}
 use Rattle.tk_search.specs.declared.trials.totals.TrialReport.{TrialReport}
 
--- the swaps of a kick, which are those to rewind, and of a descent after it are undone
+-- the swaps of the kick, which are those that a rewind takes, and of the descent after it are undone
 undone_swaps : (s0 s1 s2 u0 u2 kick rewind taken swaps : ℕ) → swaps ≡ kick + taken → s1 ≡ saturated (s0 + kick) →
     s1 ≡ saturated (s0 + rewind) → s2 ≡ saturated (s1 + taken) → u2 ≡ saturated (u0 + (rewind + taken)) → u2 ≤ s2 →
     s2 < 2 ^ 64 - 1 → u2 ≡ u0 + swaps
 undone_swaps s0 s1 s2 u0 u2 kick rewind taken swaps all by_kick by_rewind by_descent undone le lt = omega arith
 
--- From the state `s` before a descent, whose best is that of the totals, to `t`. Before the descent came a kick of so
--- many swaps, or none.
+-- From the state `s` before a descent, whose best tour is that of the totals, to the state `t`. A kick that took `kick`
+-- swaps came before the descent; `kick` is 0 if there was none.
 pub settles : {S : Type 0} {u : undo.Ghosts S} {w : Ghosts S} (n flips swaps kick made taken : ℕ) (old : Totals)
     (s t : State S u w) (report : TrialReport) → EndsTrial made taken s t report → AreCountsOf t.totals t.tour t.best →
     length (best_of s.best) ≡ n → slots_of s.tour ≡ n → flips ≡ flips_since s.tour + made → swaps ≡ kick + taken →

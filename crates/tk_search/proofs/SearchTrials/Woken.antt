@@ -7,7 +7,7 @@ use Rattle.tk_tour.proofs.Tours.{city_in_range}
 use Rattle.tk_search.specs.Cuts.{AreCuts, end_places}
 use Rattle.tk_search.specs.declared.double_bridges.cuts.Cuts.{Cuts}
 
--- the ends of the parts are cities
+-- the first and the last city of each part are cities of the tour
 module _ (xs : List ℕ) (cuts : Cuts) (tour : IsTour (length xs) xs) (are : AreCuts (length xs) cuts) where
   at : (p : ℕ) → 1 ≤ p → p ≤ length xs → IsCity (length xs) (city_at xs p)
   at p low high = let r = city_in_range (length xs) xs (p - 1) tour (omega arith) in (r.0, r.1)

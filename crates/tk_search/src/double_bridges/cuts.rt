@@ -1,4 +1,4 @@
-//! Where a kick cuts a tour.
+//! The cuts of a kick.
 ghost use Rattle.std.specs.Prelude.{◌≡◌, ◌≤◌, length, map};
 ghost use Rattle.tk_distance.specs.Cities.{city_at};
 ghost use Rattle.tk_search.specs.Cuts.{AreCuts, drawn_cuts, end_places};
@@ -7,20 +7,20 @@ use rand::RngExt;
 use rand_core::Rng;
 use tk_tour::TourStore;
 
-/// Three cuts of a tour of n cities, which make four parts of it: the first `p` places, those on to `q`, those on to
-/// `r`, and the others.
+/// Three cuts of a tour of n cities into four parts: positions 1 to `p`, `p + 1` to `q`, `q + 1` to `r`, and `r + 1` to
+/// n.
 #[derive(Clone, Copy, PartialEq, Eq, Debug)]
 pub struct Cuts {
-    /// How many cities the first part has.
+    /// The number of cities in the first part.
     pub p: u32,
-    /// How many cities the first two parts have.
+    /// The number of cities in the first two parts.
     pub q: u32,
-    /// How many cities the first three parts have.
+    /// The number of cities in the first three parts.
     pub r: u32,
 }
 
 impl Cuts {
-    /// Draws the three cuts one after another, each among those that leave a city for every part after it.
+    /// Draws the three cuts one after another. Each leaves at least one city for every part after it.
     pub fn draw<R: Rng>(rng: &mut R, n: u32) -> Cuts
         requires { 8 ≤ n }
         ensures cuts { AreCuts n result }
@@ -32,7 +32,7 @@ impl Cuts {
         Cuts { p, q, r }
     }
 
-    /// The first and the last city of each part, in their order.
+    /// The first and the last city of each part, in tour order.
     pub fn ends<S: TourStore>(&self, store: &S) -> [u32; 8]
         requires { AreCuts (length (S.cities store.now)) self.now }
         ensures { result ≡ map (city_at (S.cities store.now)) (end_places (length (S.cities store.now)) self.now) }

@@ -1,4 +1,4 @@
-//! The kick of a tour out of a local optimum.
+//! Kicks, which take a tour out of a local optimum.
 ghost use Rattle.std.specs.Prelude.{◌≡◌, ◌≤◌, ◌+◌, ◌*◌, ◌/◌, length, pos, ◌+ℤ◌, ◌≤ℤ◌, All};
 ghost use Rattle.tk_distance.specs.Cities.{IsCity};
 ghost use Rattle.tk_tour.specs.Tour.{SameCycle};
@@ -9,8 +9,8 @@ use crate::double_bridges::cuts::Cuts;
 use tk_distance::Metric;
 use tk_tour::TourStore;
 
-/// The double bridge: of the four parts that the cuts make of the tour, the second and the fourth change places, by
-/// four flips. The first turns all parts but the first round, and each of the others turns one of them back.
+/// The double bridge: swaps the second and the fourth of the four parts at the cuts, by four flips. The first flip
+/// reverses all parts except the first; each of the others reverses one of them back.
 pub fn kick<S: TourStore>(store: &mut S, cuts: Cuts)
     requires { AreCuts (length (S.cities store.old)) cuts }
     ensures bridged { SameCycle (S.cities store.new) (bridged cuts (S.cities store.old)) }
@@ -38,7 +38,7 @@ fn four_steps<M: Metric>(metric: &M, cities: [u32; 8]) -> i64
     metric.dist(a, b) + metric.dist(c, d) + metric.dist(e, f) + metric.dist(g, h)
 }
 
-/// The length of a tour after the double bridge, by its length before and the first and the last city of each part.
+/// The length of a tour after the double bridge, from its length before and the first and the last city of each part.
 pub(crate) fn bridged_length<M: Metric>(metric: &M, before: i64, ends: [u32; 8]) -> i64
     requires cities { All (IsCity (M.size_of metric.now)) ends }
     requires before { (pos 0 ≤ℤ before) × (before ≤ℤ pos 400000000000000) }

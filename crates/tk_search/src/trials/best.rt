@@ -6,7 +6,7 @@ ghost use Rattle.tk_tour.specs.Tour.{IsSizedTour};
 use std::alloc::{AllocError, Global};
 use tk_tour::UndoStore;
 
-/// The best tour so far: the cities in their order, and how many were copied to it.
+/// The best tour so far: its cities in tour order, and how many cities have been copied to it.
 #[derive(Drop)]
 pub(crate) struct Best {
     cities: Vec<u32>,
@@ -18,10 +18,10 @@ pub(crate) struct Best {
 impl Best {
     ghost use Rattle.tk_search.specs.Best.{best_of, copied_to};
 
-    /// A tour as it stands, which is not counted as a copy.
+    /// A copy of a tour; its cities are not counted as copied.
     ///
     /// # Errors
-    /// `AllocError` where there is no memory for its cities.
+    /// `AllocError` if memory runs out.
     pub(crate) fn new<S: UndoStore>(alloc: Global, tour: &S) -> Result<Best, AllocError>
         ensures cities { IfOk result (λ b. best_of b ≡ S.cities tour.now) }
         ensures copied { IfOk result (λ b. copied_to b ≡ 0) }
@@ -31,7 +31,7 @@ impl Best {
         Ok(Best { cities, copied: 0 })
     }
 
-    /// Takes a tour of as many cities.
+    /// Copies a tour of the same number of cities.
     pub(crate) fn take<S: UndoStore>(&mut self, tour: &S)
         requires { length (S.cities tour.now) ≡ length (best_of self.old) }
         ensures cities { best_of self.new ≡ S.cities tour.now }
@@ -41,7 +41,7 @@ impl Best {
         self.copied = self.copied.saturating_add(self.cities.len() as u64);
     }
 
-    /// The cities in their order.
+    /// The cities in tour order.
     pub(crate) fn cities(&self) -> &[u32]
         ensures cities { result.now ≡ best_of self.now }
         ensures tour { IsSizedTour result.now }
@@ -49,7 +49,7 @@ impl Best {
         self.cities.as_slice()
     }
 
-    /// How many cities were copied to it.
+    /// How many cities have been copied to it.
     pub(crate) fn copied(&self) -> u64
         ensures { result ≡ copied_to self.now }
     {

@@ -11,17 +11,17 @@ use tk_distance::Metric;
 use tk_near::Near;
 use tk_tour::TourStore;
 
-/// How a search descends.
+/// The rules of the descents of a search.
 #[derive(Clone, Copy, PartialEq, Eq, Debug)]
 pub struct SearchRules {
-    /// Whether each descent is swept: it wakes all cities, until no city has an improving offer.
+    /// Whether each descent is swept: it makes passes, each with all cities awake, until one makes no move.
     pub sweep: bool,
-    /// The greatest number of cities of a segment that an Or-move takes: 1 to 3.
+    /// The maximum number of cities in the segment of an Or-opt move: 1 to 3.
     pub or_segment: u32,
 }
 
-/// Descends by the rules, with a fresh count of tests, and goes on remembering steps of the tour. A descent that is not
-/// swept is one pass.
+/// Descends by the rules. It counts tests from 0, and keeps using and filling the cache of edge lengths. A descent that
+/// is not swept is one pass.
 pub(crate) fn descend_by<S: TourStore, M: Metric>(
     store: &mut S,
     metric: &M,

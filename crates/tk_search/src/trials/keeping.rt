@@ -1,4 +1,4 @@
-//! The end of a trial: its result is taken as the best tour, or the best tour stands again.
+//! The end of a trial: its result becomes the best tour, or the best tour is restored.
 ghost use Rattle.std.specs.Prelude.{◌≡◌, ◌≤◌, ◌<◌, ◌+◌, true, false, length};
 ghost use Rattle.tk_tour.specs.Counters.{saturated};
 ghost use Rattle.tk_tour.specs.JournalTours.{cities_of, swaps_of, undo_swaps_of, flips_of, copied_of};
@@ -9,8 +9,8 @@ ghost use Rattle.tk_search.specs.Settled.{IsAtBest};
 use crate::trials::best::Best;
 use tk_tour::{JournalTour, UndoStore};
 
-/// Takes the tour as the best where it is better; else the best stands again, by undoing the flips, or by a copy where
-/// one was lost.
+/// If the tour is better, makes it the best; otherwise restores the best by undoing the flips, or by a copy if the
+/// journal has overflowed.
 pub(crate) fn keep_better<S: UndoStore>(tour: &mut JournalTour<S>, best: &mut Best, better: bool)
     requires size { length (cities_of tour.old) ≡ length (best_of best.old) }
     requires settled { flips_since tour.old ≤ slots_of tour.old → settled_order tour.old ≡ best_of best.old }

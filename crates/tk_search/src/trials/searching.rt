@@ -1,4 +1,4 @@
-//! A search: descents from a start, and then from kicks of the best tour.
+//! A search: descents from a starting tour, and then from kicks of the best tour.
 ghost use Rattle.std.specs.Prelude.{◌≡◌, ◌≤◌, IfOk, length, pos, false};
 ghost use Rattle.tk_tour.specs.ArrayTours.{order_of};
 ghost use Rattle.tk_tour.specs.Tour.{tour_length};
@@ -14,8 +14,8 @@ use tk_distance::Metric;
 use tk_near::Near;
 use tk_tour::ArrayTour;
 
-/// A search by trials. The first descends from the start; each later one from a kick of the best tour, where there are
-/// at least 8 cities.
+/// A search by trials. The first trial descends from the starting tour. Each later one descends from a kick of the best
+/// tour if there are at least 8 cities, and otherwise does nothing.
 #[derive(Drop)]
 pub struct Search<'a, M: Metric> {
     metric: &'a M,
@@ -29,10 +29,10 @@ pub struct Search<'a, M: Metric> {
 impl<'a, M: Metric> Search<'a, M> {
     ghost use Rattle.tk_search.specs.SearchOf.{search_of};
 
-    /// A search from a tour, before its first trial. All its growths are made here.
+    /// A search from a starting tour, before the first trial. All of its memory is allocated here.
     ///
     /// # Errors
-    /// `AllocError` where there is no memory for it; the start is given up then.
+    /// `AllocError` if memory runs out; the starting tour is dropped then.
     pub fn new(
         alloc: Global,
         metric: &'a M,
@@ -53,7 +53,7 @@ impl<'a, M: Metric> Search<'a, M> {
         })
     }
 
-    /// The next trial. After the first one, a trial on fewer than 8 cities does nothing.
+    /// Makes the next trial. After the first one, a trial on fewer than 8 cities does nothing.
     pub fn trial<R: Rng>(&mut self, rng: &mut R) -> TrialReport
         ensures next { NextTrial (search_of self.old) (R.stream rng.old) (search_of self.new)
             (R.stream rng.new) result }
@@ -65,7 +65,7 @@ impl<'a, M: Metric> Search<'a, M> {
         }
     }
 
-    /// The best tour so far: the cities in their order.
+    /// The best tour so far: its cities in tour order.
     pub fn best(&self) -> &[u32]
         ensures { result.now ≡ (search_of self.now).best }
     {
@@ -85,7 +85,7 @@ impl<'a, M: Metric> Search<'a, M> {
         }
     }
 
-    /// What the search counted so far.
+    /// The totals of the search so far.
     pub fn totals(&self) -> Totals
         ensures value { result ≡ (search_of self.now).totals }
         ensures bounded { IsBoundedSearch (search_of self.now) }

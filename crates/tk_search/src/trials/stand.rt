@@ -1,4 +1,4 @@
-//! Where a search stands, with the store that suits its number of cities.
+//! The state of a search, with the tour store that suits its number of cities.
 ghost use Rattle.std.specs.Prelude.{◌≡◌, ◌≤◌, IfOk, length};
 ghost use Rattle.tk_tour.specs.ArrayTours.{order_of};
 ghost use Rattle.tk_search.specs.Searching.{IsBegun};
@@ -11,10 +11,11 @@ use tk_near::Near;
 use tk_segments::SegmentTour;
 use tk_tour::ArrayTour;
 
-/// From so many cities on, a tour is seen through segments.
+/// Tours of at least this many cities are stored in segments.
 const MANY: usize = 8_000;
 
-/// Where a search stands: with few cities in an array, with many in one that is seen through segments.
+/// The state of a search. A tour of few cities is stored in an array, and one of many in an array that is divided into
+/// segments.
 #[derive(Drop)]
 pub(crate) enum Stand {
     Array(State<ArrayTour>),
@@ -25,10 +26,10 @@ impl Stand {
     ghost use Rattle.tk_search.specs.SearchOf.{stands_at};
     ghost use Rattle.tk_search.specs.Standing.{IsStanding};
 
-    /// Before the first trial from a tour.
+    /// The state before the first trial from a starting tour.
     ///
     /// # Errors
-    /// `AllocError` where there is no memory for it; the start is given up then.
+    /// `AllocError` if memory runs out; the starting tour is dropped then.
     pub(crate) fn new<M: Metric>(
         alloc: Global,
         metric: &M,

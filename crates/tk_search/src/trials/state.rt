@@ -1,4 +1,4 @@
-//! Where a search stands, and its next trial.
+//! The state of a search, and its next trial.
 ghost use Rattle.std.specs.Prelude.{◌≡◌, pos, ◌+◌, ◌-◌, ◌^◌, ◌<◌, ◌≤◌, IfOk, [], length, true, false, All};
 ghost use Rattle.tk_distance.specs.Cities.{IsCity};
 ghost use Rattle.tk_descent.specs.Awake.{one_to, woken_each};
@@ -28,7 +28,7 @@ use tk_distance::Metric;
 use tk_near::Near;
 use tk_tour::{JournalTour, TourStore, UndoStore, length};
 
-/// Wakes the ends of a kick, or where all is swept all cities.
+/// Wakes the first and the last city of each part of a kick or, if descents are swept, all cities.
 fn wake_kicked(waking: &mut Waking, ends: &[u32], sweep: bool)
     requires { All (IsCity waking.old.size) ends.now }
     ensures swept { sweep ≡ true → waking.new.queue ≡ woken_each waking.old.queue (one_to waking.old.size) }
@@ -64,7 +64,8 @@ fn no_trial(shortest: i64) -> TrialReport
     }
 }
 
-/// Where a search stands: the tour that it works on, the best one, what it remembers of steps, and what it counted.
+/// The state of a search: the tour that it works on, the best tour and its length, the waking cities, the cache of edge
+/// lengths, and the totals.
 #[derive(Drop)]
 pub(crate) struct State<S: UndoStore> {
     pub(crate) tour: JournalTour<S>,
@@ -76,10 +77,10 @@ pub(crate) struct State<S: UndoStore> {
 }
 
 impl<S: UndoStore> State<S> {
-    /// Before the first trial from a tour.
+    /// The state before the first trial from a starting tour.
     ///
     /// # Errors
-    /// `AllocError` where there is no memory for it; the tour is given up then.
+    /// `AllocError` if memory runs out; the starting tour is dropped then.
     pub(crate) fn new<M: Metric>(
         alloc: Global,
         metric: &M,
@@ -106,7 +107,7 @@ impl<S: UndoStore> State<S> {
         })
     }
 
-    /// The next trial. After the first one, a trial on fewer than 8 cities does nothing.
+    /// Makes the next trial. After the first one, a trial on fewer than 8 cities does nothing.
     pub(crate) fn trial<M: Metric, R: Rng>(
         &mut self,
         metric: &M,
@@ -132,8 +133,8 @@ impl<S: UndoStore> State<S> {
         self.descend(metric, near, rules, true, before)
     }
 
-    /// Descends from the tour with the cities that are awake. The result becomes the best tour where it is shorter;
-    /// else that stands again.
+    /// Descends from the tour, of length `before`, with the cities that are awake. If the result is shorter than the
+    /// best tour, it becomes the best; otherwise the best is restored.
     pub(crate) fn descend<M: Metric>(
         &mut self,
         metric: &M,
@@ -165,7 +166,7 @@ impl<S: UndoStore> State<S> {
         ensures shortest { self.new.shortest ≡ pos (tour_length (M.distance metric.now) (best_of self.new.best)) }
         ensures steps { AreTrueOf (M.distance metric.now) self.new.steps }
 
-        // what it counts
+        // the totals, and the bounds on the work of the trial
         ensures adds { AddsTrial self.old.totals self.new.totals result (gain_of result) }
         ensures counts { AreCountsOf self.new.totals self.new.tour self.new.best }
         ensures small { (self.new.totals.swaps < 2 ^ 64) × (self.new.totals.copied < 2 ^ 65) }
@@ -199,8 +200,8 @@ impl<S: UndoStore> State<S> {
         report
     }
 
-    /// Kicks the tour at cuts of the generator, wakes the ends of its parts, or all cities, and answers the length that
-    /// it has then.
+    /// Kicks the tour at cuts drawn from the generator, and returns its new length. It wakes the first and the last
+    /// city of each part or, if descents are swept, all cities.
     pub(crate) fn kick<M: Metric, R: Rng>(&mut self, metric: &M, rng: &mut R, sweep: bool) -> i64
         requires many { 8 ≤ length (cities_of self.old.tour) }
         requires fits { (M.size_of metric.now ≡ length (cities_of self.old.tour))

@@ -1,43 +1,45 @@
-//! What a search counts.
+//! The totals of a search, and the report of a trial.
 ghost use Rattle.std.specs.Prelude.{◌≡◌, ◌<◌, ◌^◌};
 
 use crate::trials::best::Best;
 use tk_descent::Report;
 use tk_tour::{JournalTour, TourStore, UndoStore};
 
-/// What a trial of a search did.
+/// What a trial of a search has done.
 #[derive(Clone, Copy)]
 pub struct TrialReport {
-    /// Whether the descent began with a kick of the best tour.
+    /// Whether the trial began with a kick of the best tour.
     pub kicked: bool,
-    /// Whether its result became the best tour.
+    /// Whether the result became the best tour.
     pub better: bool,
-    /// How many passes the descent made: one where it was not swept.
+    /// The number of passes of the descent: 1 if it was not swept, and 0 if the trial did nothing.
     pub passes: u64,
-    /// The descent.
+    /// The report of the descent. If the trial did nothing, its lengths are that of the best tour, and its counters are
+    /// 0.
     pub descent: Report,
 }
 
-/// What a search did so far. A count that would pass its type's greatest value stands still there.
+/// What a search has done so far. Counters saturate: `swaps` and `undo_swaps` at 2^64 - 1, `copied` at twice that, and
+/// the others at 2^128 - 1.
 #[derive(Clone, Copy, PartialEq, Eq, Debug)]
 pub struct Totals {
-    /// The length of the tour that the search began with.
+    /// The length of the starting tour.
     pub start: i64,
-    /// How many trials there were.
+    /// The number of trials; those that did nothing are not counted.
     pub trials: u128,
-    /// How many of them found a better tour.
+    /// The number of trials that found a better tour.
     pub better: u128,
     /// The moves of all descents.
     pub moves: u128,
-    /// What all descents together made their tours shorter by.
+    /// By how much all descents together have shortened their tours.
     pub gained: u128,
     /// The gains that all descents computed.
     pub tests: u128,
     /// The swaps of two cities that the flips of kicks and descents took.
     pub swaps: u128,
-    /// The swaps that undid flips of them.
+    /// The swaps that undid these flips.
     pub undo_swaps: u128,
-    /// The cities that were copied to the best tour, and from it.
+    /// How many cities were copied to the best tour, and from it.
     pub copied: u128,
     /// The passes of all descents.
     pub passes: u128,
@@ -46,7 +48,7 @@ pub struct Totals {
 impl Totals {
     ghost use Rattle.tk_search.specs.Totals.{AddsTrial, AreCountsOf};
 
-    /// The totals of a search from a tour of this length, before its first trial.
+    /// The totals of a search from a tour of this length, before the first trial.
     pub(crate) fn new(start: i64) -> Totals
         ensures start { result.start ≡ start }
         ensures none { (result.trials ≡ 0) × (result.better ≡ 0) × (result.moves ≡ 0) × (result.gained ≡ 0)
@@ -67,7 +69,8 @@ impl Totals {
         }
     }
 
-    /// The totals with one more trial, whose tour gained that much; swaps and copies as the tours count them.
+    /// The totals after one more trial, whose descent shortened its tour by `gained`. Swaps and copies are those that
+    /// the tours have counted.
     pub(crate) fn with_trial<S: UndoStore>(
         self,
         report: &TrialReport,

@@ -15,7 +15,7 @@ use Rattle.tk_search.proofs.trials.state.State.descend.Goals.{then-better, else-
 use mir.Syntax.{w64}
 use mir.Val.{SFits}
 
--- one of two counts has risen by so much, in a counter of 64 bits: so has their sum
+-- if one of two counters of 64 bits has risen by `more`, so has their sum
 risen : (more x y x' y' old new : ℕ) → x' ≡ saturated (x + more) → y' ≡ y → old ≡ x + y → new ≡ x' + y' →
     RisesBy more old new
 risen more x y x' y' old new by same before after = record { most = omega arith; exact = λ low. omega arith }

@@ -25,7 +25,7 @@ all_woken : (g : Over) (c : After-descend g) →
     c.wake_all.new.self.queue ≡ one_to (length (best_of c.args.self.now.best))
 all_woken g c = all_awake _ _ _ _ c.wake_all.ensures.queue c.requires.asleep c.requires.queue
 
--- what the first trial leaves
+-- the state after the first trial
 leaves_first : (g : Over) (c : After-descend g) →
     Leaves c.args.near.now (g.M.Metric.distance c.args.metric.now) c.args.rules c.args.self.now c.descend.new.self
     (length (best_of c.args.self.now.best)) c.descend.ensures.trial.0.flips c.descend.ensures.trial.0.swaps
@@ -58,7 +58,7 @@ leaves_first g c =
       same = same_best d.trial.0;
     }
 
--- the swaps so far after a kick, and after the descent from it
+-- the swaps so far after a kick, and below after the descent from it
 swaps_kicked : (g : Over) (c : After-descend-2 g) →
     swaps_of c.kick-before.new.self.tour ≡ saturated
     (c.args.self.now.totals.swaps
@@ -75,7 +75,7 @@ swaps_descended g c =
     let d = c.descend-2.ensures in
     d.counts.swaps ∙ d.swapped ∙ ap (λ v. v + c.descend-2.result.descent.swaps) (swaps_kicked g c)
 
--- what a trial after a kick leaves
+-- the state after a kicked trial
 leaves_kicked : (g : Over) (c : After-descend-2 g) →
     Leaves c.args.near.now (g.M.Metric.distance c.args.metric.now) c.args.rules c.args.self.now c.descend-2.new.self 8
     (4 + c.descend-2.ensures.trial.0.flips)
