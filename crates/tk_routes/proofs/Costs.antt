@@ -8,7 +8,7 @@ use Rattle.tk_tour.proofs.Lengths.{tour_length-limit}
 use Rattle.tk_routes.specs.Instance.{Instance, node_of}
 use Rattle.tk_routes.specs.Routes.{route_nodes, route_length, routes_cost}
 
--- a route that holds no customer has no length
+-- a route without customers has length 0
 pub route_length-nil : (i : Instance) → ((a : ℕ) → i.distance a a ≡ 0) → route_length i [] ≡ 0
 route_length-nil i diagonal = omega (arith, diagonal i.depot)
 

@@ -1,4 +1,4 @@
--- Lists that are cut at a place.
+-- Lists that are cut at an index.
 use Rattle.std.proofs.Common.{◌≡◌, ℕ, ◌+◌, ◌<◌, List, [], ◌∷◌, ◌++◌, length, take, drop, get_or, set, sym, ap, ◌∙◌, ◌≤◌}
 use Rattle.std.proofs.Common.{append-nil, append_assoc, arith}
 use Rattle.std.specs.Prelude.{map}
@@ -8,7 +8,7 @@ use Rattle.std.proofs.lemmas.List.{length-take, length-take-le, get_or_at, set_a
 use Rattle.std.proofs.lemmas.List.Elements.{All-cons, All-head, All-nil, All-tail}
 use Rattle.std.proofs.lemmas.List.Folds.{concat-append}
 
--- a list is what stands before a place, its element and what stands after it
+-- a list consists of the elements before an index, the element there, and those after it
 pub cut_at : {X : Type 0} (xs : List X) (k : ℕ) (d : X) → k < length xs →
     xs ≡ take k xs ++ get_or xs k d ∷ drop (k + 1) xs
 cut_at xs k d lt = sym (take-append-drop k xs) ∙ ap (λ v. take k xs ++ v) (drop_more xs k d lt)
@@ -31,7 +31,7 @@ concat-take_more f xs k x lt is =
     ap concat (map-take_more f xs k x lt is) ∙ concat-append (map f (take k xs)) (f x ∷ [])
     ∙ ap (λ v. concat (map f (take k xs)) ++ v) (append-nil (f x))
 
--- what holds of each element of two lists holds of each of the one, and of the other
+-- what is true of each element of a concatenation is true of each element of its first list, and below of its second
 pub All-front : {X : Type 0} (P : X → Type 0) (xs ys : List X) → All P (xs ++ ys) → All P xs
 All-front P [] ys h = All-nil P
 All-front P (x ∷ xs) ys h = All-cons P x xs (All-head P x (xs ++ ys) h) (All-front P xs ys (All-tail P x (xs ++ ys) h))
@@ -47,7 +47,7 @@ length-before f xs k lt = omega (arith, length-map (take k xs) f, length-take k 
 pub map-take_all : {X : Type 0} (f : X → List ℕ) (xs : List X) (k : ℕ) → length xs ≤ k → map f (take k xs) ≡ map f xs
 map-take_all f xs k le = ap (map f) (take_all k xs le)
 
--- a list whose first k elements were mapped, with one more
+-- a list whose first k elements have been mapped, after one more is mapped
 pub mapped_on : {Y : Type 0} (f : Y → Y) (zs ys : List Y) (k : ℕ) (z d : Y) → k < length ys →
     zs ≡ map f (take k ys) ++ drop k ys → z ≡ f (get_or zs k d) →
     set zs k z ≡ map f (take (k + 1) ys) ++ drop (k + 1) ys

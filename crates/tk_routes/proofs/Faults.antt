@@ -1,4 +1,4 @@
--- The first fault among the customers of claimed routes.
+-- The first fault among the customers of a solution.
 use Rattle.std.proofs.Common.{◌≡◌, ℕ, ◌+◌, ◌-◌, ◌<◌, ◌≤◌, Bool, true, false, List, [], ◌∷◌, ◌++◌, length, take, drop}
 use Rattle.std.proofs.Common.{get_or, set, refl, sym, ap, ◌∙◌, subst, append_assoc}
 use Rattle.std.specs.Prelude.{map}
@@ -12,7 +12,7 @@ use Rattle.tk_routes.specs.declared.claims.verdict.RouteVerdict.TheVariants.{Bad
 use Rattle.tk_routes.proofs.CutLists.{cut_at, cut_map, concat-take_more}
 use Rattle.tk_routes.proofs.Served.{AreServed-more, served_before}
 
--- the k-th customer of a route comes after those of the routes before and the first k of its own
+-- the k-th customer of a route comes after those of the routes before and the first k of its own, counted from 0
 module _ (m : ℕ) (served : List Bool) (before after : List (List ℕ)) (number : ℕ) (route : List ℕ) (k : ℕ)
     (is : number ≡ length before + 1) (lt : k < length route) (size : length served ≡ m)
     (h : AreServed served (concat before ++ take k route)) where
@@ -44,7 +44,7 @@ module _ (m : ℕ) (served : List Bool) (before after : List (List ℕ)) (number
     ),
   )
 
--- one more customer of a route is served
+-- one more customer of a route is marked as served
 pub served_on : (served : List Bool) (earlier route : List ℕ) (k : ℕ) → k < length route →
     AreServed served (earlier ++ take k route) → IsCity (length served) (get_or route k 0) →
     get_or served (get_or route k 0 - 1) false ≡ false →

@@ -1,4 +1,4 @@
--- The routes that hold a customer.
+-- The routes with a customer.
 use Rattle.std.proofs.Common.{◌≡◌, ℕ, ◌≤◌, List, [], ◌∷◌, ◌++◌, length, refl, sym, ap, ◌∙◌, subst, arith, ltb, cond}
 use Rattle.std.proofs.Common.{◌<◌, ◌-◌, Bool}
 use Rattle.std.specs.List.{All, concat}
@@ -13,7 +13,7 @@ use Rattle.tk_routes.specs.Serving.{AreServed, AreMarked}
 use Rattle.tk_routes.proofs.Costs.{route_length-nil}
 use Rattle.tk_routes.proofs.Served.{IsTour-served, served_before}
 
--- a route that holds a customer is kept
+-- a route with a customer is kept
 filled_of-cons : (x : ℕ) (xs : List ℕ) (routes : List (List ℕ)) → filled_of ((x ∷ xs) ∷ routes) ≡ (x ∷ xs)
     ∷ filled_of routes
 filled_of-cons x xs routes =
@@ -49,7 +49,7 @@ filled_all : (routes : List (List ℕ)) → All (λ (route : List ℕ). 1 ≤ le
 filled_all routes = All-weaker _ _ (λ (route : List ℕ) passes. ltb-true 0 (length route) passes) (filled_of routes)
     (filter_passes (λ (route : List ℕ). ltb 0 (length route)) routes)
 
--- where all customers are marked, nothing but the cost can be wrong
+-- if all customers are marked, only the cost can be wrong
 pub AreRoutes-marked : (i : Instance) (served : List Bool) (routes : List (List ℕ)) → length served ≡ customer_count i →
     AreServed served (concat routes) → All (IsLight i) routes →
     AreMarked served (length served) → AreRoutes i (filled_of routes)

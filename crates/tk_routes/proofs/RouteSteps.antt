@@ -15,7 +15,7 @@ use Rattle.tk_routes.proofs.Costs.{routes_cost-limit}
 use Rattle.tk_routes.proofs.CutLists.{cut_map, map-take_more, length-before}
 use Rattle.tk_routes.proofs.Served.{AreServedOnce-part, AreServedOnce-short}
 
--- the way back from a customer's node, by the way to the next
+-- the length of the rest of a route, with the edge to its next customer and the rest after it
 pub way_back-customer : (d : ℕ → ℕ → ℕ) (depot from k : ℕ) (route : List ℕ) (node : ℕ) → k < length route →
     node ≡ node_of depot (get_or route k 0) →
     way_back d from depot k (map (node_of depot) route) ≡ d from node + way_back d node depot (k + 1)
@@ -49,7 +49,7 @@ routes_cost-bound f i m xs k diagonal limit h =
       AreServedOnce-short m (concat (map f xs)) h,
     )
 
--- one more of the routes: their cost, and whether their loads are within the capacity
+-- one more of the routes: the cost, and whether the loads are within the capacity
 module _ {X : Type 0} (f : X → List ℕ) (i : Instance) (xs : List X) (k : ℕ) (x : X) (route : List ℕ)
     (lt : k < length xs) (at : x ≡ get_or xs k x) (is : route ≡ f x) where
   pub routes_cost-more :

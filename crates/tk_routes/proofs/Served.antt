@@ -15,7 +15,7 @@ use Rattle.tk_routes.specs.RouteVerdicts.{AreServedOnce}
 use Rattle.tk_routes.specs.Serving.{AreServed}
 use Rattle.tk_routes.proofs.CutLists.{All-front, All-back}
 
--- no customer is served at first
+-- at the start, no customer is served
 pub AreServed-none : (n : ℕ) → AreServed (replicate n false) []
 AreServed-none n = record {
   once =
@@ -33,7 +33,7 @@ pub occurrences-pass : (c x : ℕ) (xs : List ℕ) → c ≢ x → occurrences c
 occurrences-pass c x xs ne =
     omega (arith, occurrences-append c xs (x ∷ []), occurrences-other c x [] ne, occurrences-nil c)
 
--- a marked customer was served, and one without a mark was not
+-- a marked customer has been served, and below one without a mark has not
 pub served_before : (served : List Bool) (xs : List ℕ) (x : ℕ) → AreServed served xs → IsCity (length served) x →
     get_or served (x - 1) false ≡ true → 1 ≤ occurrences x xs
 served_before served xs x h city e = ltb-true 0 (occurrences x xs) (sym (h.marks x city) ∙ e)
@@ -74,7 +74,7 @@ AreServed-more served xs x h city e =
           (cases_eq c x);
     }
 
--- of lists whose customers are served once in all, so are those of each
+-- if each customer of some routes is served once in all, so is each of one of them
 pub AreServedOnce-part : (m : ℕ) (before : List (List ℕ)) (route : List ℕ) (after : List (List ℕ)) →
     AreServedOnce m (concat (before ++ route ∷ after)) → AreServedOnce m route
 AreServedOnce-part m before route after h =
@@ -97,7 +97,7 @@ AreServedOnce-part m before route after h =
 pub AreServedOnce-short : (m : ℕ) (xs : List ℕ) → AreServedOnce m xs → length xs ≤ m
 AreServedOnce-short m xs h = length-distinct m xs (λ k lt. All-get_or (IsCity m) xs k 0 lt h.known) h.once
 
--- where each of 1 to m is among them, they are a tour
+-- if they include each of 1 to m, they are a tour
 pub IsTour-served : (m : ℕ) (xs : List ℕ) → AreServedOnce m xs →
     ((c : ℕ) → 1 ≤ c → c ≤ m → 1 ≤ occurrences c xs) → IsTour m xs
 IsTour-served m xs h all = (

@@ -1,6 +1,6 @@
--- An instance of capacitated routing: the nodes 1 to `size`, of which one is the depot and the others are customers.
---     IsInstanceOf problem i      the instance that a problem gives
---     customer_count i      how many customers there are: they are numbered from 1
+-- An instance of the CVRP: the nodes 1 to `size`, of which one is the depot and the others are customers.
+--     IsInstanceOf problem i      the instance that a problem describes
+--     customer_count i      the number of customers, which are numbered from 1
 --     node_of depot k      the node of customer k: the k-th node that is not the depot
 --     customer_of depot c      the customer of a node
 --     demand_of i k      the demand of customer k
@@ -16,7 +16,7 @@ pub record Instance : Type 0 where
   pub capacity : ℕ
   pub depot : ℕ
 
--- the instance that a problem gives, which has a routing
+-- the instance that a problem with routing describes
 pub record IsInstanceOf (problem : Problem) (i : Instance) : Type 0 where
   pub size : i.size ≡ problem.n
   pub distance : (a b : ℕ) → i.distance a b ≡ problem_distance problem.weights a b
@@ -26,7 +26,7 @@ pub record IsInstanceOf (problem : Problem) (i : Instance) : Type 0 where
 abbrev pub customer_count : Instance → ℕ
 customer_count i = i.size - 1
 
--- the node of a customer: the nodes above the depot have the number of their customer, and one more
+-- the node of a customer, whose number is one higher than that of the customer if it is above the depot
 abbrev pub node_of : ℕ → ℕ → ℕ
 node_of depot k = if nat_lt k depot then k else k + 1
 

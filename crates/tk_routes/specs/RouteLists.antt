@@ -9,6 +9,6 @@ use Rattle.tk_routes.specs.declared.routes.Routes.{Routes}
 abbrev pub routes_of : Routes → List (List ℕ)
 routes_of routes = lists_of routes.lists.items
 
--- the instance that they are routes of
+-- the instance of the routes
 abbrev pub instance_of_routes : Routes → Instance
 instance_of_routes routes = instance_of routes.cvrp

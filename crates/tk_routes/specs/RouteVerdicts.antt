@@ -1,9 +1,8 @@
--- What a verdict says of claimed routes and their claimed cost.
---     StandsAt routes r x earlier      x stands on the r-th route, after the customers `earlier` in the order of the
--- text
---     AreServedOnce m xs      customers of 1 to m, none of them twice
---     IsFirstOver i routes r load      the r-th route is the first whose load is over the capacity
---     filled_of routes      the routes that hold a customer
+-- Verdicts on the routes and the cost of a solution.
+--     StandsAt routes r x earlier      x is on the r-th route, after the customers `earlier` in the order of the text
+--     AreServedOnce m xs      customers from 1 to m, none of them twice
+--     IsFirstOver i routes r load      the r-th route is the first whose load exceeds the capacity
+--     filled_of routes      the routes with a customer
 --     IsRouteVerdict i routes cost verdict      the first fault, or that there is none
 use Rattle.std.specs.Prelude.{◌≡◌, ◌≢◌, ◌+◌, ◌<◌, ◌≤◌, ℕ, ℤ, pos, List, ◌∷◌, ◌++◌, length, nat_lt, filter}
 use Rattle.std.specs.List.{All, concat}
@@ -15,7 +14,7 @@ use Rattle.tk_routes.specs.declared.claims.verdict.RouteVerdict.{RouteVerdict}
 use Rattle.tk_routes.specs.declared.claims.verdict.RouteVerdict.TheVariants.{Valid, BadCustomer, ServedTwice}
 use Rattle.tk_routes.specs.declared.claims.verdict.RouteVerdict.TheVariants.{OverCapacity, NotServed, WrongCost}
 
--- x stands on the r-th route, from 1, and `earlier` are the customers before it in the order of the text
+-- x is on the r-th route, counted from 1, and `earlier` are the customers before it in the order of the text
 pub record StandsAt (routes : List (List ℕ)) (r x : ℕ) (earlier : List ℕ) : Type 0 where
   pub before : List (List ℕ)
   pub front : List ℕ
@@ -25,12 +24,12 @@ pub record StandsAt (routes : List (List ℕ)) (r x : ℕ) (earlier : List ℕ) 
   pub number : r ≡ length before + 1
   pub earlier_is : earlier ≡ concat before ++ front
 
--- each is one of the customers 1 to m, and none stands twice
+-- each is a customer from 1 to m, and none occurs twice
 pub record AreServedOnce (m : ℕ) (xs : List ℕ) : Type 0 where
   pub known : All (IsCity m) xs
   pub once : (c : ℕ) → occurrences c xs ≤ 1
 
--- a customer that is none of 1 to m, or one that stands earlier too, after customers without a fault
+-- a number not from 1 to m, or a customer that occurs earlier, too; the customers before it have no fault
 abbrev pub IsCustomerFault : ℕ → List (List ℕ) → RouteVerdict → Type 0
 IsCustomerFault m routes (BadCustomer r x) =
     (earlier : List ℕ) × (StandsAt routes r x earlier × AreServedOnce m earlier × (¬ IsCity m x))
@@ -39,7 +38,7 @@ IsCustomerFault m routes (ServedTwice x) =
     × ((earlier : List ℕ) × (StandsAt routes r x earlier × AreServedOnce m earlier × (1 ≤ occurrences x earlier)))
 IsCustomerFault m routes _ = ⊥
 
--- the r-th route, from 1, is the first whose load is over the capacity
+-- the r-th route, counted from 1, is the first whose load exceeds the capacity
 pub record IsFirstOver (i : Instance) (routes : List (List ℕ)) (r load : ℕ) : Type 0 where
   pub before : List (List ℕ)
   pub route : List ℕ
@@ -50,23 +49,24 @@ pub record IsFirstOver (i : Instance) (routes : List (List ℕ)) (r load : ℕ) 
   pub load_is : load ≡ route_load i route
   pub over : i.capacity < load
 
--- the verdict tells the first such route
+-- the verdict is the first such route
 abbrev pub IsFirstOverIn : Instance → List (List ℕ) → RouteVerdict → Type 0
 IsFirstOverIn i routes (OverCapacity r load) = IsFirstOver i routes r load
 IsFirstOverIn i routes _ = ⊥
 
--- x is the lowest of 1 to m that does not stand in the list
+-- x is the lowest of 1 to m that does not occur in the list
 pub record IsFirstMissing (m : ℕ) (xs : List ℕ) (x : ℕ) : Type 0 where
   pub known : IsCity m x
   pub missing : occurrences x xs ≡ 0
   pub lowest : (c : ℕ) → 1 ≤ c → c < x → occurrences c xs ≡ 1
 
--- the routes that hold a customer
+-- the routes with a customer
 abbrev pub filled_of : List (List ℕ) → List (List ℕ)
 filled_of routes = filter (λ route. nat_lt 0 (length route)) routes
 
--- the first fault: customer by customer in the order of the text, then by capacity, then the lowest customer that is on
--- no route, then by cost. Without one, the routes that hold a customer are routes of that cost.
+-- The first fault: customer by customer in the order of the text, then the first load over the capacity, then the
+-- lowest customer that is on no route, then the cost. If there is none, the routes with a customer are valid, and have
+-- this cost.
 abbrev pub IsRouteVerdict : Instance → List (List ℕ) → ℤ → RouteVerdict → Type 0
 IsRouteVerdict i routes cost (BadCustomer r x) = IsCustomerFault (customer_count i) routes (BadCustomer r x)
 IsRouteVerdict i routes cost (ServedTwice x) = IsCustomerFault (customer_count i) routes (ServedTwice x)

@@ -21,11 +21,11 @@ route_length i route = tour_length i.distance (route_nodes i route)
 abbrev pub routes_cost : Instance → List (List ℕ) → ℕ
 routes_cost i routes = sum_by (route_length i) routes
 
--- the load is within the capacity
+-- the load does not exceed the capacity
 abbrev pub IsLight : Instance → List ℕ → Type 0
 IsLight i route = route_load i route ≤ i.capacity
 
--- lists that hold each customer once in all, none of them empty and each within the capacity
+-- lists that contain each customer once in all; none of them is empty, and each is within the capacity
 pub record AreRoutes (i : Instance) (routes : List (List ℕ)) : Type 0 where
   pub filled : All (λ route. 1 ≤ length route) routes
   pub once : IsTour (customer_count i) (concat routes)

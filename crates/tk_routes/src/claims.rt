@@ -1,3 +1,3 @@
-//! Claimed routes: their check, and its verdict.
+//! The check of the routes of a solution, and its verdict.
 pub mod check;
 pub mod verdict;

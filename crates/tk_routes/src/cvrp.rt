@@ -1,4 +1,4 @@
-//! A capacitated routing problem.
+//! A capacitated vehicle routing problem (CVRP).
 ghost use Rattle.std.specs.Prelude.{◌≡◌, ◌≤◌, ◌<◌, ◌-◌, All, None, IfNone, IfSome, length, pos, slice_index};
 ghost use Rattle.tk_problem.specs.declared.limits.TheConstants.{CAPACITY_LIMIT, CITY_LIMIT, TABLE_LIMIT};
 ghost use Rattle.tk_distance.specs.Cities.{IsCity};
@@ -7,17 +7,17 @@ ghost use Rattle.tk_distance.specs.Tables.{table_size, table_distance};
 use tk_distance::{Metric, Table};
 use tk_problem::Problem;
 
-/// A capacitated routing problem: the distances among its nodes, their demands, the capacity of a vehicle and the
-/// depot's node. Customer k is the k-th node that is not the depot.
+/// A CVRP: the distances between its nodes, their demands, the capacity of a vehicle, and the node of the depot.
+/// Customer k is the k-th node that is not the depot.
 #[derive(Clone, Copy)]
 pub struct Cvrp<'a> {
-    /// The distances among its nodes.
+    /// The distances between the nodes.
     pub table: Table<'a>,
     /// The demand of each node.
     pub demands: &'a [u32],
-    /// The greatest load of a vehicle.
+    /// The maximum load of a vehicle.
     pub capacity: u32,
-    /// The depot's node.
+    /// The node of the depot.
     pub depot: u32,
     ghost low: { 2 ≤ table_size table },
     ghost few: { table_size table ≤ TABLE_LIMIT },
@@ -33,7 +33,7 @@ impl<'a> Cvrp<'a> {
     ghost use Rattle.tk_routes.specs.Instance.{IsInstanceOf, customer_count, demand_of, node_of};
     ghost use Rattle.tk_routes.specs.Routes.{route_length, route_load};
 
-    /// The routing problem that a problem gives: none for a TSP.
+    /// The CVRP that a problem describes; `None` for a TSP.
     pub fn of(problem: &'a Problem) -> Option<Cvrp<'a>>
         ensures some { IfSome result (λ c. IsInstanceOf problem.now (instance_of c)) }
         ensures none { IfNone result (problem.now.routing ≡ None) }
@@ -47,7 +47,7 @@ impl<'a> Cvrp<'a> {
         })
     }
 
-    /// The distances among its nodes.
+    /// The distances between the nodes.
     pub fn table(&self) -> Table<'a>
         ensures size { table_size result ≡ (instance_of self.now).size }
         ensures distance { table_distance result ≡ (instance_of self.now).distance }
@@ -55,7 +55,7 @@ impl<'a> Cvrp<'a> {
         self.table
     }
 
-    /// How many customers there are.
+    /// The number of customers.
     pub fn customers(&self) -> u32
         ensures value { result ≡ customer_count (instance_of self.now) }
         ensures some { 1 ≤ result }
@@ -64,7 +64,7 @@ impl<'a> Cvrp<'a> {
         self.table.size() - 1
     }
 
-    /// The depot's node.
+    /// The node of the depot.
     pub fn depot(&self) -> u32
         ensures value { result ≡ (instance_of self.now).depot }
         ensures known { IsCity (instance_of self.now).size result }
@@ -72,7 +72,7 @@ impl<'a> Cvrp<'a> {
         self.depot
     }
 
-    /// The greatest load of a vehicle.
+    /// The maximum load of a vehicle.
     pub fn capacity(&self) -> u32
         ensures value { result ≡ (instance_of self.now).capacity }
         ensures limit { result ≤ CAPACITY_LIMIT }
@@ -102,7 +102,7 @@ impl<'a> Cvrp<'a> {
         self.demands[self.node(customer) as usize - 1]
     }
 
-    /// The sum of the demands of a route's customers.
+    /// The load of a route: the sum of the demands of its customers.
     pub fn load(&self, route: &[u32]) -> u64
         requires known { All (IsCity (customer_count (instance_of self.now))) route.now }
         requires few { length route.now ≤ CITY_LIMIT }
@@ -115,7 +115,7 @@ impl<'a> Cvrp<'a> {
         load
     }
 
-    /// The length of a route, from the depot and back: 0 where it holds no customer.
+    /// The length of a route, from the depot and back to it; 0 if it has no customer.
     pub fn length(&self, route: &[u32]) -> i64
         requires known { All (IsCity (customer_count (instance_of self.now))) route.now }
         requires few { length route.now ≤ CITY_LIMIT }

@@ -1,4 +1,5 @@
-//! Capacitated routing: what an instance is, checking claimed routes, savings routes, and improving them one by one.
+//! Capacitated vehicle routing: instances, the check of solutions, routes by the savings algorithm, and their
+//! improvement one by one.
 #![tactic(auto)]
 
 mod claims;

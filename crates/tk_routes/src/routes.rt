@@ -1,12 +1,11 @@
-//! The routes of the vehicles.
+//! The routes of a CVRP.
 ghost use Rattle.std.specs.Prelude.{◌≡◌, map};
 ghost use Rattle.tk_routes.specs.Cvrps.{instance_of};
 ghost use Rattle.tk_routes.specs.Routes.{AreRoutes};
 
 use crate::cvrp::Cvrp;
 
-/// Routes of a routing problem: each customer is on one of them, none of them is empty, and no load is over the
-/// capacity.
+/// Routes of a CVRP: each customer is on exactly one of them, none of them is empty, and no load exceeds the capacity.
 #[derive(Drop)]
 pub struct Routes<'a> {
     pub(crate) cvrp: Cvrp<'a>,
@@ -17,7 +16,7 @@ pub struct Routes<'a> {
 impl Routes<'_> {
     ghost use Rattle.tk_routes.specs.RouteLists.{routes_of};
 
-    /// The routes as they are now, each as the numbers of its customers.
+    /// The routes as they are now, each as the list of its customers.
     pub fn lists(&self) -> &[Vec<u32>]
         ensures { map (λ r. r.items) result.now ≡ routes_of self.now }
     {

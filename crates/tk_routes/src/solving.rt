@@ -1,4 +1,4 @@
-//! Routes by savings, and each route made shorter by itself.
+//! Routes by the savings algorithm, and the improvement of each by itself.
 pub mod improving;
 pub mod measured;
 pub mod merging;

@@ -1,4 +1,4 @@
--- Descents over the places of a list.
+-- Descents over the positions of a list.
 use Rattle.std.proofs.Common.{◌≡◌, ℕ, ◌+◌, ◌-◌, ◌*◌, ◌/◌, ◌≤◌, List, [], length, sym, ap, ◌∙◌, subst, arith}
 use Rattle.std.specs.Prelude.{min}
 use Rattle.std.proofs.Math.Nat.{mul-le-mul_left, mul-le-mul_right}
@@ -20,7 +20,7 @@ use Rattle.tk_routes.specs.Instance.{Instance}
 use Rattle.tk_routes.specs.Routes.{route_nodes}
 use Rattle.tk_routes.specs.ImprovedRoutes.{IsImproved, IsFlipped, IsReadOff, place_distance}
 
--- a descent from 1 to n with all cities awake
+-- a descent from the tour 1 to n with all cities awake
 pub Pass-from : (d e : ℕ → ℕ → ℕ) (near : ℕ → List ℕ) (m n : ℕ) (C T Q : List ℕ) (looks moves tests : ℕ) → e ≡ d →
     C ≡ one_to n → Q ≡ one_to n → Run e near m C Q T [] looks moves tests →
     Pass d near m (one_to n) T looks moves tests
@@ -29,7 +29,7 @@ Pass-from d e near m n C T Q looks moves tests table start queue run =
     subst (λ (v : List ℕ). Pass d near m v T looks moves tests) start
     (pass_of d e near m C T Q looks moves tests table all run)
 
--- a move makes the tour shorter, so there are not many
+-- each move shortens the tour, so there are not many
 pub few_moves : (d e : ℕ → ℕ → ℕ) (n moves : ℕ) (C T : List ℕ) → e ≡ d → length C ≡ n → n ≤ TABLE_LIMIT →
     ((a b : ℕ) → d a b ≤ DISTANCE_LIMIT) → moves + tour_length e T ≤ tour_length e C → moves ≤ 20000000000000
 few_moves d e n moves C T table size few limit goes =
@@ -38,7 +38,7 @@ few_moves d e n moves C T table size few limit goes =
     subst (λ (v : ℕ → ℕ → ℕ). moves + tour_length v T ≤ tour_length v C) table goes in
     omega (arith, long, made, size, few)
 
--- what flips did, as their counts have not reached their greatest values
+-- the effect of the flips, whose counters have not reached their maximum
 pub IsFlipped-counted : (n moves swaps : ℕ) (old new : ArrayTour) → order_of old ≡ one_to n → FlipsAlone old new →
     flips_of old ≡ 0 → swaps_of old ≡ 0 → flips_of new ≤ flips_of old + 3 * moves →
     swaps ≡ swaps_of new - swaps_of old →
@@ -59,7 +59,7 @@ pub IsReadOff-cycle : (route T cycle new : List ℕ) → SameCycle T cycle → I
 IsReadOff-cycle route T cycle new same read =
     record { places = read.places; same = SameCycle-trans same read.same; read = read.read; turned = read.turned }
 
--- the route of such a descent over its places
+-- the route of such a descent over its positions
 pub IsImproved-read : (i : Instance) (k m : ℕ) (route new T : List ℕ) (d : ℕ → ℕ → ℕ) (n : ℕ) (v : NearLists)
     (looks moves tests swaps : ℕ) →
     d ≡ place_distance i.distance (route_nodes i route) → n ≡ length route + 1 → v.size ≡ n →
@@ -88,7 +88,7 @@ IsImproved-read i k m route new T d n v looks moves tests swaps table size lists
       read = read;
     }
 
--- fewer candidates take fewer tests
+-- with fewer candidates, the bound on the tests stays true
 pub tests_within : (m w k n l moves tests : ℕ) → w ≤ k → n ≡ l → tests ≤ 4 * m * w * (n + 6 * moves) →
     tests ≤ 4 * m * k * (l + 6 * moves)
 tests_within m w k n l moves tests le same h =

@@ -1,4 +1,4 @@
--- Routes of which one gives way to a permutation of it.
+-- Routes of which one is replaced by a permutation of it.
 use Rattle.std.proofs.Common.{◌≡◌, ℕ, ◌+◌, ◌≤◌, List, [], ◌∷◌, ◌++◌, length, ◌∙◌, arith, length-append, eqb}
 use Rattle.std.proofs.Common.{cond}
 use Rattle.std.specs.List.{All, concat}
@@ -26,7 +26,7 @@ IsTour-permutation : (n : ℕ) (xs ys : List ℕ) → IsTour n xs → IsPermutat
 IsTour-permutation n xs ys tour h =
     (length_permutation xs ys h ∙ tour.0, λ c low high. occurrences-permutation c xs ys h ∙ tour.1 c low high)
 
--- each customer of routes is served once
+-- valid routes serve each customer once
 pub AreServedOnce-routes : (i : Instance) (routes : List (List ℕ)) → AreRoutes i routes →
     AreServedOnce (customer_count i) (concat routes)
 AreServedOnce-routes i routes h =
@@ -38,7 +38,7 @@ AreServedOnce-routes i routes h =
     (omega (arith, within.0, at), omega (arith, within.1, at)) in
     record { known = known; once = HoldsOnce-tour m xs h.once }
 
--- what is known of one of the routes
+-- facts about one of the routes
 pub route_known : (i : Instance) (front back : List (List ℕ)) (route : List ℕ) → AreRoutes i (front ++ route ∷ back) →
     All (IsCity (customer_count i)) route × (1 ≤ length route) × (length route ≤ customer_count i)
 route_known i front back route h =
@@ -50,7 +50,7 @@ route_known i front back route h =
       AreServedOnce-short (customer_count i) route served,
     )
 
--- a permutation of a route in its place
+-- what is true of all routes stays true after the replacement if it is true of the new route
 exchanged_all : (P : List ℕ → Type 0) (front back : List (List ℕ)) (old new : List ℕ) → All P (front ++ old ∷ back) →
     (P old → P new) → All P (front ++ new ∷ back)
 exchanged_all P front back old new h one =
@@ -81,7 +81,7 @@ pub routes_cost-at : (i : Instance) (front back : List (List ℕ)) (route : List
 routes_cost-at i front back route =
     omega (arith, sum_by-append (route_length i) front (route ∷ back), sum_by-cons (route_length i) route back)
 
--- there are no more routes than customers
+-- there are at most as many routes as customers
 pub few_routes : (routes : List (List ℕ)) → All (λ (v : List ℕ). 1 ≤ length v) routes →
     length routes ≤ length (concat routes)
 few_routes [] filled = omega arith

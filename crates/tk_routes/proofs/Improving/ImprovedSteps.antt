@@ -19,7 +19,7 @@ use Rattle.tk_routes.proofs.Costs.{routes_cost-limit}
 use Rattle.tk_routes.proofs.CutLists.{All-front}
 use Rattle.tk_routes.proofs.Improving.Exchanged.{AreRoutes-exchanged, routes_cost-at, route_known, few_routes}
 
--- the first j of the routes are improved, and the others are as before
+-- the first j routes are improved, and the others have not changed
 pub record IsImprovedTo (i : Instance) (k m : ℕ) (olds now : List (List ℕ)) (j moves swaps tests : ℕ) : Type 0 where
   pub front : List (List ℕ)
   pub done : List (List ℕ)
@@ -51,7 +51,7 @@ IsImprovedTo-none {olds = olds} h = record {
   tested = omega arith;
 }
 
--- what stands at the next place
+-- the next route, which is the first of those that have not changed
 record IsAtRoute (front back : List (List ℕ)) (old : List ℕ) : Type 0 where
   pub rest : List (List ℕ)
   pub is : back ≡ old ∷ rest
@@ -90,7 +90,7 @@ module _ {i : Instance} {k m : ℕ} {olds now : List (List ℕ)} {j moves swaps 
     improved = h.improved;
   }
 
-  -- the next route, with another in its place
+  -- the next route, and another one at its position
   module _ {old : List ℕ} (lt : j < length now) (at : old ≡ get_or now j []) where
     place : IsAtRoute h.done h.back old
     place = next_route h.done h.back j old h.count (omega (arith, lt, ap length h.after))
@@ -105,7 +105,7 @@ module _ {i : Instance} {k m : ℕ} {olds now : List (List ℕ)} {j moves swaps 
     routes : AreRoutes i (h.done ++ old ∷ place.rest)
     routes = subst (λ (v : List (List ℕ)). AreRoutes i v) now_is h.routes
 
-    -- what the cost becomes
+    -- the cost after this
     pub cost_step : (new : List ℕ) →
         routes_cost i (set now j new) + route_length i old ≡ routes_cost i now + route_length i new
     cost_step new =
@@ -153,7 +153,7 @@ module _ {i : Instance} {k m : ℕ} {olds now : List (List ℕ)} {j moves swaps 
               report.tests h.tested made.tests);
         }
 
-  -- all counts are small
+  -- the number of routes, and of their customers, is at most that of all customers
   front_short : (length (concat h.front) ≤ customer_count i) × (length h.front ≤ customer_count i)
   front_short =
       let whole : length (concat olds) ≡ length (concat h.front) + length (concat h.back) =
@@ -181,7 +181,7 @@ module _ {i : Instance} {k m : ℕ} {olds now : List (List ℕ)} {j moves swaps 
         omega (arith, moved, h.tested, wide, front_short.0, front_short.1, few),
       )
 
-  -- after the last one
+  -- after the last route
   module _ (le : length now ≤ j) where
     none_left : h.back ≡ []
     none_left = nil_end h.done h.back j h.count (omega (arith, le, ap length h.after))
@@ -201,7 +201,7 @@ module _ {i : Instance} {k m : ℕ} {olds now : List (List ℕ)} {j moves swaps 
         omega (arith, ap (λ v. length (concat v)) all_before, ap length all_before, h.olds_are.once.0) in
         subst (λ (v : ℕ). tests ≤ most_tests k m v moves) whole h.tested
 
--- by what the cost falls: at least one for each move
+-- the bound on the tests by the decrease of the cost, which is at least one for each move
 pub tests_by_fall : {i : Instance} {k m : ℕ} {olds news : List (List ℕ)} {report : RouteReport} →
     AreImprovements i k m olds news report → report.tests ≤ most_tests k m (place_count i olds) (fall_of report)
 tests_by_fall {i} {k} {m} {olds} {news} {report} h =

@@ -1,4 +1,4 @@
--- The lists of the savings merges as routes.
+-- The lists of the savings algorithm as routes.
 use Rattle.std.proofs.Common.{◌≡◌, ℕ, ◌-◌, ◌<◌, ◌≤◌, List, [], ◌∷◌, length, Vec, sym, ap, ◌∙◌, subst, arith}
 use Rattle.std.specs.Prelude.{map, flat_map}
 use Rattle.std.specs.List.{All, concat, sum_by}
@@ -17,7 +17,7 @@ use Rattle.tk_routes.specs.Routes.{AreRoutes, IsLight, route_load}
 use Rattle.tk_routes.specs.SavingsRoutes.{AreSavingsRoutes}
 use Rattle.tk_routes.proofs.Improving.Nodes.{all_nodes_again, load-customers, concat-map, IsTour-customers}
 
--- each node alone is within the capacity
+-- the demand of each node is within the capacity
 pub AreLight-demands : (n hub capacity : ℕ) (demands : List ℕ) → length demands ≡ n → All (λ q. q ≤ capacity) demands →
     AreLight n hub (load_of demands) capacity
 AreLight-demands n hub capacity demands size loads c city ne =
@@ -46,7 +46,7 @@ light_customers i (list ∷ lists) none light =
     (light_customers i lists back
     (All-tail (λ (v : List ℕ). sum_by (load_of i.demands) v ≤ i.capacity) list lists light))
 
--- the lists that were written in the place of others
+-- lists that are written over others, with their nodes numbered as customers
 pub numbered_lists : {X Z : Type 0} (f : X → List ℕ) (depot : ℕ) (v : Vec X Z) (old new : List X) → old ≡ v.items →
     length new ≡ v.len → map f new ≡ map (map (customer_of depot)) (map f old) →
     map f (with_items v new).items ≡ map (map (customer_of depot)) (map f v.items)

@@ -25,14 +25,14 @@ node_of-customer_of depot c ne = grind (arith, nat_tests, ne)
 pub customer_of-node_of : (depot k : ℕ) → customer_of depot (node_of depot k) ≡ k
 customer_of-node_of depot k = grind (arith, nat_tests)
 
--- what holds of the first node and of the others, where the depot is not among them
+-- the first node is not the depot, and the others do not include it, if it does not occur
 not_here : (depot x : ℕ) (xs : List ℕ) → occurrences depot (x ∷ xs) ≡ 0 → x ≢ depot
 not_here depot x xs none e = absurd (omega (arith, none, occurrences-same depot x xs (sym e)))
 
 not_later : (depot x : ℕ) (xs : List ℕ) → occurrences depot (x ∷ xs) ≡ 0 → occurrences depot xs ≡ 0
 not_later depot x xs none = omega (arith, none, occurrences-append depot (x ∷ []) xs)
 
--- nodes that were numbered as customers are found again
+-- the nodes of the customers of nodes are these nodes
 pub nodes_again : (depot : ℕ) (xs : List ℕ) → occurrences depot xs ≡ 0 →
     map (node_of depot) (map (customer_of depot) xs) ≡ xs
 nodes_again depot [] none = refl
@@ -51,7 +51,7 @@ all_nodes_again depot (xs ∷ xss) none =
     ap (λ v. v ∷ map (map (node_of depot)) (map (map (customer_of depot)) xss)) (nodes_again depot xs front)
     ∙ ap (λ v. xs ∷ v) (all_nodes_again depot xss back)
 
--- the demands of the customers are the loads of the nodes
+-- the sum of the customers' demands is that of the nodes
 pub load-customers : (i : Instance) (xs : List ℕ) → occurrences i.depot xs ≡ 0 →
     sum_by (demand_of i) (map (customer_of i.depot) xs) ≡ sum_by (load_of i.demands) xs
 load-customers i [] none = refl
@@ -66,7 +66,7 @@ load-customers i (x ∷ xs) none =
       load-customers i xs (not_later i.depot x xs none),
     )
 
--- a customer stands as often as its node stood
+-- a customer occurs as often as its node
 pub occurrences-customers : (depot c : ℕ) (xs : List ℕ) → occurrences depot xs ≡ 0 →
     occurrences c (map (customer_of depot) xs) ≡ occurrences (node_of depot c) xs
 occurrences-customers depot c [] none = omega (arith, occurrences-nil c, occurrences-nil (node_of depot c))
@@ -96,7 +96,7 @@ pub concat-map : (f : ℕ → ℕ) (xss : List (List ℕ)) → concat (map (map 
 concat-map f [] = refl
 concat-map f (xs ∷ xss) = ap (λ v. map f xs ++ v) (concat-map f xss) ∙ sym (map-append f xs (concat xss))
 
--- after the depot, each other node stands once: so does each customer
+-- if the depot and each other node occur once, so does each customer
 pub IsTour-customers : (n depot : ℕ) (xs : List ℕ) → IsCity n depot → IsTour n (depot ∷ xs) →
     IsTour (n - 1) (map (customer_of depot) xs) × (occurrences depot xs ≡ 0)
 IsTour-customers n depot xs city tour =

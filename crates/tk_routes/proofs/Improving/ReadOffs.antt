@@ -1,4 +1,4 @@
--- Routes read off from a cycle of places.
+-- Routes read off from a cycle of positions.
 use Rattle.std.proofs.Common.{◌≡◌, ◌≢◌, ℕ, suc, ◌+◌, ◌-◌, ◌<◌, ◌≤◌, ⊎_elim, List, [], ◌∷◌, ◌++◌, length, take, drop}
 use Rattle.std.proofs.Common.{get_or, refl, sym, ap, ◌∙◌, subst, arith, inl, inr, append_assoc}
 use Rattle.std.specs.Prelude.{map, reverse}
@@ -27,7 +27,7 @@ IsTour-cycle n xs ys tour same =
     let s = cities-cycle xs ys same in
     (s.0 ∙ tour.0, λ c low high. s.1 c ∙ tour.1 c low high)
 
--- the places after the depot's are those of the customers
+-- the positions after the depot's are those of customers
 inside : (n p : ℕ) (front back : List ℕ) → IsTour n (1 ∷ (front ++ p ∷ back)) → (2 ≤ p) × (p ≤ n)
 inside n p front back tour =
     let once = occurrences-append p front (p ∷ back) in
@@ -52,7 +52,7 @@ one_more : (n p : ℕ) (front back : List ℕ) → IsTour n (1 ∷ (front ++ p �
     IsTour n (1 ∷ ((front ++ p ∷ []) ++ back))
 one_more n p front back tour = subst (λ (v : List ℕ). IsTour n (1 ∷ v)) (sym (append_assoc front (p ∷ []) back)) tour
 
--- what stands at the places of a cycle
+-- the customers at the positions of a cycle
 as_customers : (n : ℕ) (route front ps : List ℕ) → IsTour n (1 ∷ (front ++ ps)) →
     map (customer_at route) ps ≡ map (city_at route) (map (customer_of 1) ps)
 as_customers n route front [] tour = refl
@@ -76,7 +76,7 @@ nodes_at i route front (p ∷ ps) tour =
     ∙ ap (λ v. city_at (route_nodes i route) p ∷ v)
     (nodes_at i route (front ++ p ∷ []) ps (one_more (length route + 1) p front ps tour))
 
--- the nodes of a route that was read off
+-- the nodes of a route that is read off
 nodes_read : (i : Instance) (route cycle new : List ℕ) (r : IsReadOff route cycle new) →
     IsTour (length route + 1) cycle →
     route_nodes i new ≡ map (city_at (route_nodes i route)) (1 ∷ r.places)
@@ -85,7 +85,7 @@ nodes_read i route cycle new r tour =
     ∙ ap (λ v. i.depot ∷ v)
     (nodes_at i route [] r.places (IsTour-cycle (length route + 1) cycle (1 ∷ r.places) tour r.same))
 
--- it has the customers of the old one
+-- the new route has the customers of the old one
 pub IsPermutation-read : (route cycle new : List ℕ) → IsReadOff route cycle new → IsTour (length route + 1) cycle →
     IsPermutation route new
 IsPermutation-read route cycle new r tour =
@@ -98,7 +98,7 @@ IsPermutation-read route cycle new r tour =
     (sym (r.read ∙ as_customers (length route + 1) route [] r.places whole))
     (IsPermutation-places route (map (customer_of 1) r.places) places)
 
--- its length is the cycle's
+-- the length of the new route is that of the cycle
 pub route_length-read : (i : Instance) (route cycle new : List ℕ) → ((a b : ℕ) → i.distance a b ≡ i.distance b a) →
     IsReadOff route cycle new → IsTour (length route + 1) cycle →
     route_length i new ≡ tour_length (place_distance i.distance (route_nodes i route)) cycle
@@ -112,7 +112,7 @@ route_length-read i route cycle new symmetric r tour =
 pub length-route_nodes : (i : Instance) (route : List ℕ) → length (route_nodes i route) ≡ length route + 1
 length-route_nodes i route = omega (arith, length-map route (node_of i.depot))
 
--- the length of a route by its places
+-- the length of a route, over its positions
 pub route_length-places : (i : Instance) (route : List ℕ) →
     route_length i route ≡ tour_length (place_distance i.distance (route_nodes i route)) (one_to (length route + 1))
 route_length-places i route =
@@ -120,14 +120,14 @@ route_length-places i route =
     ap (tour_length i.distance) (sym (map-city_at nodes (length route + 1) (length-route_nodes i route)))
     ∙ tour_length-map i.distance (city_at nodes) (one_to (length route + 1))
 
--- a cycle that begins with the depot's place
+-- a cycle that begins with the position of the depot
 pub behind_first : (cycle : List ℕ) → 1 ≤ length cycle → get_or cycle 0 0 ≡ 1 →
     cycle ≡ 1 ∷ take (length cycle - 1) (drop 1 cycle)
 behind_first [] some e = absurd (omega arith)
 behind_first (x ∷ xs) some e = ap (λ v. v ∷ xs) e
     ∙ ap (λ v. 1 ∷ v) (sym (take_all (length (x ∷ xs) - 1) xs (omega arith)))
 
--- a later place is that of a customer
+-- each later position is that of a customer
 pub place_inside : (n : ℕ) (cycle : List ℕ) (k : ℕ) → IsTour n cycle → 1 ≤ n → get_or cycle 0 0 ≡ 1 →
     k < length (take (length cycle - 1) (drop 1 cycle)) →
     (2 ≤ get_or (take (length cycle - 1) (drop 1 cycle)) k 0)

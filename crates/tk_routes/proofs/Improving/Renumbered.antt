@@ -1,4 +1,4 @@
--- Tours as permutations of 1 to n, and their lengths when the cities get other names.
+-- Tours as permutations of 1 to n, and their lengths after the cities are renumbered.
 use Rattle.std.proofs.Common.{◌≡◌, ◌≢◌, ℕ, zero, suc, ◌+◌, ◌-◌, ◌<◌, ◌≤◌, ⊎_elim, List, [], ◌∷◌, ◌++◌, length, take}
 use Rattle.std.proofs.Common.{drop, get_or, refl, sym, ap, ◌∙◌, subst, arith, length-append}
 use Rattle.std.specs.Prelude.{map, All}
@@ -17,7 +17,7 @@ use Rattle.tk_descent.proofs.WakeRuns.Woken.{one_to-length}
 use Rattle.tk_routes.proofs.CutLists.{cut_at}
 use Rattle.tk_routes.proofs.Served.{occurrences-pass, occurrences-push}
 
--- 1 to n as a tour
+-- the cities 1 to n as a tour
 one_to-above : (n c : ℕ) → n < c → occurrences c (one_to n) ≡ 0
 one_to-above zero c lt = occurrences-nil c
 one_to-above (suc n) c lt =
@@ -42,7 +42,7 @@ All-one_to n xs is k d lt =
     let within = city_in_range n xs k tour lt in
     (omega (arith, at, within.0), omega (arith, at, within.1))
 
--- a list, place by place
+-- the entries of a list, position by position
 map-city_at-to : (xs : List ℕ) (k : ℕ) → k ≤ length xs → map (city_at xs) (one_to k) ≡ take k xs
 map-city_at-to xs zero le = refl
 map-city_at-to xs (suc k) le =
@@ -96,13 +96,13 @@ IsPermutation-tour (suc n) xs tour =
     subst (λ (v : List ℕ). IsPermutation (one_to n ++ suc n ∷ []) v) (sym cut)
     (IsPermutation-push_more (one_to n) (take j xs ++ drop (j + 1) xs) _ (suc n) rest front)
 
--- a list in the order of a tour of its places
+-- a list in the order of a tour of its positions is a permutation of it
 pub IsPermutation-places : (xs ps : List ℕ) → IsTour (length xs) ps → IsPermutation xs (map (city_at xs) ps)
 IsPermutation-places xs ps tour =
     subst (λ (v : List ℕ). IsPermutation v (map (city_at xs) ps)) (map-city_at xs (length xs) refl)
     (IsPermutation-map (city_at xs) (one_to (length xs)) ps (IsPermutation-tour (length xs) ps tour))
 
--- the length when the cities get other names
+-- the length after the cities are renumbered
 walk-map : (d : ℕ → ℕ → ℕ) (f : ℕ → ℕ) (a : ℕ) (xs : List ℕ) →
     walk d (f a) (map f xs) ≡ walk (λ x y. d (f x) (f y)) a xs
 walk-map d f a [] = refl

@@ -1,4 +1,4 @@
--- What stands where in distances that are written down row by row.
+-- Entries of a table of distances, row by row.
 use Rattle.std.proofs.Common.{◌≡◌, ℕ, ◌+◌, ◌-◌, ◌*◌, ◌/◌, ◌%◌, ◌≤◌, ◌<◌, List, [], ◌∷◌, ◌++◌, length, get_or, sym, ap}
 use Rattle.std.proofs.Common.{◌∙◌, arith, ⊎_elim, subst}
 use Rattle.std.proofs.Math.ListN.{get_or-append}
@@ -10,13 +10,13 @@ use Rattle.std.proofs.lemmas.Nat.{div-mul-add, mod-mul-add}
 use Rattle.tk_distance.specs.Cities.{IsCity}
 use Rattle.tk_routes.specs.Rows.{AreRows}
 
--- the distance at place b, from 0, after a whole rows
+-- the distance at column b, counted from 0, after a full rows
 row_distance : (dist : ℕ → ℕ → ℕ) (n a b : ℕ) → b < n →
     dist ((a * n + b) / n + 1) ((a * n + b) % n + 1) ≡ dist (a + 1) (b + 1)
 row_distance dist n a b h = ap (λ (x : ℕ). dist (x + 1) ((a * n + b) % n + 1)) (div-mul-add a n b h)
     ∙ ap (λ (y : ℕ). dist (a + 1) (y + 1)) (mod-mul-add a n b h)
 
--- one distance more
+-- one more distance
 pub AreRows-more : (dist : ℕ → ℕ → ℕ) (n a b d : ℕ) (rows : List ℕ) → AreRows dist n rows → length rows ≡ a * n + b →
     b < n → d ≡ dist (a + 1) (b + 1) → AreRows dist n (rows ++ d ∷ [])
 AreRows-more dist n a b d rows are long h e j l =
@@ -29,7 +29,7 @@ AreRows-more dist n a b d rows are long h e j l =
     last ∙ (e ∙ (sym (row_distance dist n a b h) ∙ ap (λ (x : ℕ). dist (x / n + 1) (x % n + 1)) (sym (t ∙ long)))))
     (cases_lt j (length rows))
 
--- the distance of two cities
+-- the distance between two cities
 pub row_at : (dist : ℕ → ℕ → ℕ) (n a b other : ℕ) (rows : List ℕ) → AreRows dist n rows → length rows ≡ n * n →
     IsCity n a → IsCity n b → get_or rows ((a - 1) * n + (b - 1)) other ≡ dist a b
 row_at dist n a b other rows are long p q =
@@ -42,7 +42,7 @@ row_at dist n a b other rows are long p q =
     ∙ (are ((a - 1) * n + (b - 1)) l
     ∙ (row_distance dist n (a - 1) (b - 1) h ∙ (ap (λ (x : ℕ). dist x (b - 1 + 1)) ea ∙ ap (dist a) eb)))
 
--- the rows after one distance more
+-- the table after one more distance
 pub rows_pushed : (dist : ℕ → ℕ → ℕ) (n a b d : ℕ) (rows rows' : List ℕ) → rows' ≡ rows ++ d ∷ [] →
     AreRows dist n rows → length rows ≡ a * n + b → b < n → d ≡ dist (a + 1) (b + 1) →
     (length rows' ≡ a * n + (b + 1)) × AreRows dist n rows'

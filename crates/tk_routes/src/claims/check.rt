@@ -1,4 +1,4 @@
-//! The check of claimed routes.
+//! The check of the routes of a solution.
 ghost use Rattle.std.specs.Prelude.{◌≡◌, ◌≤◌, ◌+◌, ℕ, IfOk, List, [], MatchOption, ◌∷◌, ◌++◌, length, map, pos};
 ghost use Rattle.std.specs.List.{All, concat};
 ghost use Rattle.tk_problem.specs.declared.limits.TheConstants.{TABLE_LIMIT};
@@ -14,7 +14,8 @@ use crate::cvrp::Cvrp;
 use std::alloc::{AllocError, Global};
 use tk_lists::SolText;
 
-/// Notes the customers of a route as served, up to the first that is no customer, or served before.
+/// Marks the customers of a route as served, up to the first fault, which it returns: a number that is not a customer,
+/// or a customer that was marked before. `number` is the number of the route, counted from 1.
 fn serve(number: u64, route: &[u32], served: &mut [bool]) -> Option<RouteVerdict>
     ensures { (before after : List (List ℕ)) → number ≡ length before + 1 → AreServed served.old (concat before) →
         MatchOption result (AreServed served.new (concat before ++ route.now))
@@ -32,7 +33,7 @@ fn serve(number: u64, route: &[u32], served: &mut [bool]) -> Option<RouteVerdict
     None
 }
 
-/// Notes the customers of all routes as served, up to the first fault among them.
+/// Marks the customers of all routes as served, up to the first fault, which it returns.
 fn serve_all(routes: &[Vec<u32>], served: &mut [bool]) -> Option<RouteVerdict>
     requires { AreServed served.old [] }
     ensures { MatchOption result (AreServed served.new (concat (map
@@ -46,7 +47,7 @@ fn serve_all(routes: &[Vec<u32>], served: &mut [bool]) -> Option<RouteVerdict>
     None
 }
 
-/// The first route whose load is over the capacity.
+/// The verdict on the first route whose load exceeds the capacity, or `None`.
 fn first_over(cvrp: &Cvrp<'_>, routes: &[Vec<u32>]) -> Option<RouteVerdict>
     requires { AreServedOnce (customer_count (instance_of cvrp.now)) (concat (map (λ r. r.items) routes.now)) }
     ensures { MatchOption result (All (IsLight (instance_of cvrp.now)) (map
@@ -61,7 +62,7 @@ fn first_over(cvrp: &Cvrp<'_>, routes: &[Vec<u32>]) -> Option<RouteVerdict>
     None
 }
 
-/// The lowest customer that was not served.
+/// The lowest customer that is not served, or `None`.
 fn first_missing(served: &[bool]) -> Option<u32>
     requires { length served.now ≤ TABLE_LIMIT }
     ensures { IsLowestFree served.now result }
@@ -74,7 +75,7 @@ fn first_missing(served: &[bool]) -> Option<u32>
     None
 }
 
-/// The sum of the lengths of the routes.
+/// The cost of the routes: the sum of their lengths.
 pub fn cost_of(cvrp: &Cvrp<'_>, routes: &[Vec<u32>]) -> i64
     requires { AreServedOnce (customer_count (instance_of cvrp.now)) (concat (map (λ r. r.items) routes.now)) }
     ensures { result ≡ pos (routes_cost (instance_of cvrp.now) (map (λ r. r.items) routes.now)) }
@@ -86,7 +87,7 @@ pub fn cost_of(cvrp: &Cvrp<'_>, routes: &[Vec<u32>]) -> i64
     cost
 }
 
-/// How many routes hold a customer.
+/// The number of routes with a customer.
 fn count_filled(routes: &[Vec<u32>]) -> u64
     ensures { result ≡ length (filled_of (map (λ r. r.items) routes.now)) }
 {
@@ -99,7 +100,7 @@ fn count_filled(routes: &[Vec<u32>]) -> u64
     count
 }
 
-/// What is wrong with routes on which no customer stands twice, or that nothing is.
+/// The verdict on routes without a customer fault: each number is a customer, and none occurs twice.
 fn judge(cvrp: &Cvrp<'_>, served: &[bool], text: &SolText) -> RouteVerdict
     requires size { length served.now ≡ customer_count (instance_of cvrp.now) }
     requires served { AreServed served.now (concat (map (λ r. r.items) text.now.routes.items)) }
@@ -122,10 +123,10 @@ fn judge(cvrp: &Cvrp<'_>, served: &[bool], text: &SolText) -> RouteVerdict
     }
 }
 
-/// Whether claimed routes are routes of the claimed cost, or their first fault.
+/// Whether the routes of a solution are valid and have the cost that it states, or the first fault.
 ///
 /// # Errors
-/// `AllocError` where there is no memory for a mark of each customer.
+/// `AllocError` if memory runs out.
 pub fn check_routes(
     alloc: Global,
     cvrp: &Cvrp<'_>,

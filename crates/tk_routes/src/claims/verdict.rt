@@ -1,21 +1,21 @@
-//! What is told of claimed routes.
+//! The verdict on the routes of a solution.
 
-/// Whether claimed routes are routes of the claimed cost, or their first fault: customer by customer in the order of
-/// the text, then by capacity, then customers on no route, then by cost. Routes count from 1, and an empty one has load
-/// 0 and length 0.
+/// Whether the routes of a solution are valid and have the cost that it states, or the first fault. Customers are
+/// checked first, one by one in the order of the text; then the loads, then whether all customers are served, then the
+/// cost. Routes are numbered from 1, and an empty one has load 0 and length 0.
 #[derive(Clone, Copy, PartialEq, Eq, Debug)]
 pub enum RouteVerdict {
-    /// Each customer is served once, within the capacity and at the claimed cost. `routes` counts those that hold a
-    /// customer.
+    /// Each customer is served once, within the capacity, and the stated cost is correct. `routes` is the number of
+    /// routes with a customer.
     Valid { routes: u64, cost: i64 },
-    /// On this route stands this number, which is no customer's.
+    /// This route contains this number, which is not a customer.
     BadCustomer(u64, u32),
-    /// This customer stands at an earlier place too.
+    /// This customer also occurs at an earlier position.
     ServedTwice(u32),
-    /// This route has this load, which is more than the capacity.
+    /// This route has this load, which exceeds the capacity.
     OverCapacity(u64, u64),
-    /// This customer stands on no route.
+    /// This is the lowest customer that is on no route.
     NotServed(u32),
-    /// The text tells the first cost, and the routes have the second.
+    /// The solution states the first cost, but its routes have the second.
     WrongCost(i64, i64),
 }

@@ -1,4 +1,4 @@
-//! Each route made shorter by itself.
+//! The improvement of routes, each by itself.
 ghost use Rattle.std.specs.Prelude.{◌≡◌, ◌+◌, ◌≤◌, IfOk, IfErr};
 ghost use Rattle.tk_problem.specs.declared.limits.TheConstants.{CANDIDATE_LIMIT};
 ghost use Rattle.tk_lists.specs.Solution.{lists_of};
@@ -15,7 +15,7 @@ use crate::solving::one_route::improve_route;
 use crate::solving::route_report::RouteReport;
 use std::alloc::{AllocError, Global};
 
-/// Improves each of the lists.
+/// Improves each of the lists, in order.
 fn improve_each(
     alloc: Global,
     cvrp: &Cvrp<'_>,
@@ -58,15 +58,13 @@ fn improve_each(
     })
 }
 
-/// Improves each route by itself, in the place where it stands: by a descent from the depot and the route with all its
-/// nodes awake.
+/// Improves each route by itself and leaves it at its position. The descent starts from the depot and the route, with
+/// all of their nodes awake.
 ///
-/// `max_candidates` is the greatest number of near nodes that a look tries, and `m` the greatest segment length of an
-/// Or-move.
+/// A look tries at most `max_candidates` near nodes. The segment of an Or-opt move has at most `m` nodes (1 to 3).
 ///
 /// # Errors
-/// `AllocError` where there is no memory for a descent. The routes before some place are improved then, and the others
-/// are as before.
+/// `AllocError` if memory runs out. The routes before some position are improved then, and the others have not changed.
 pub fn improve(
     alloc: Global,
     cvrp: &Cvrp<'_>,

@@ -1,11 +1,11 @@
-//! Distances that are computed once.
+//! A metric whose distances are computed once.
 ghost use Rattle.std.specs.Prelude.{◌≡◌, ◌*◌, IfOk, length};
 ghost use Rattle.tk_routes.specs.Rows.{AreRows};
 
 use std::alloc::{AllocError, Global};
 use tk_distance::Metric;
 
-/// The distances of a metric, computed beforehand: those of each city to all cities, row by row.
+/// A metric with all of its distances computed beforehand: those from each city to all cities, row by row.
 #[derive(Drop)]
 pub struct Measured<'a, M: Metric> {
     pub metric: &'a M,
@@ -20,7 +20,7 @@ impl<'a, M: Metric> Measured<'a, M> {
     /// Computes the distances.
     ///
     /// # Errors
-    /// `AllocError` if there is no memory for n n distances.
+    /// `AllocError` if memory runs out.
     pub fn of(alloc: Global, metric: &'a M) -> Result<Measured<'a, M>, AllocError>
         ensures { IfOk result (λ v. v.metric.now ≡ metric.now) }
     {

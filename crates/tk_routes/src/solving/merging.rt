@@ -1,4 +1,4 @@
-//! The first routes, by savings.
+//! Routes by the savings algorithm.
 ghost use Rattle.std.specs.Prelude.{◌≡◌, IfOk, map};
 ghost use Rattle.tk_near.specs.Near.{near_of};
 ghost use Rattle.tk_routes.specs.Cvrps.{instance_of};
@@ -13,7 +13,7 @@ use std::alloc::{AllocError, Global};
 use tk_near::Near;
 use tk_starts::savings_lists;
 
-/// Puts the number of its customer in the place of each node.
+/// Replaces each node by the number of its customer.
 fn number_customers(depot: u32, nodes: &mut [u32])
     ensures { nodes.new ≡ map (customer_of depot) nodes.old }
 {
@@ -24,7 +24,7 @@ fn number_customers(depot: u32, nodes: &mut [u32])
     }
 }
 
-/// The same for each of the lists.
+/// Replaces each node of each list by the number of its customer.
 fn number_all(depot: u32, lists: &mut [Vec<u32>])
     ensures { map (λ r. r.items) lists.new ≡ map (map (customer_of depot)) (map (λ r. r.items) lists.old) }
 {
@@ -33,12 +33,12 @@ fn number_all(depot: u32, lists: &mut [Vec<u32>])
     }
 }
 
-/// The routes of the savings merges: each customer begins on a route of its own, and routes are joined at their ends,
-/// the greatest saving first, as long as the joint load is at most the capacity. Each begins at its lesser end, and
-/// they are ordered by first customer.
+/// The routes of the savings algorithm. Each customer begins on a route of its own. The pairs of near customers then
+/// join routes at their ends, the largest saving first, if the total load is at most the capacity. Each route begins at
+/// its smaller end, and the routes are ordered by first customer.
 ///
 /// # Errors
-/// `AllocError` where there is no memory for the merges or the routes.
+/// `AllocError` if memory runs out.
 pub fn savings<'a>(alloc: Global, cvrp: &Cvrp<'a>, near: &Near) -> Result<Routes<'a>, AllocError>
     requires { near.now.size ≡ (instance_of cvrp.now).size }
     ensures merged { IfOk result (λ v. AreSavingsRoutes (instance_of cvrp.now) (near_of near.now) (routes_of v)) }

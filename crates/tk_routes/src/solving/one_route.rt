@@ -1,4 +1,4 @@
-//! One route by itself, made shorter by a descent.
+//! The improvement of one route by a descent.
 ghost use Rattle.std.specs.Prelude.{◌≡◌, pos, ◌+◌, ◌*◌, ◌/◌, ◌<◌, ◌≤◌, IfOk, All, length, slice_index};
 ghost use Rattle.tk_problem.specs.declared.limits.TheConstants.{CANDIDATE_LIMIT, TABLE_LIMIT};
 ghost use Rattle.tk_distance.specs.Cities.{IsCity};
@@ -20,10 +20,10 @@ use tk_distance::{Metric, Sub};
 use tk_near::{Near, near_scan};
 use tk_tour::{ArrayTour, length};
 
-/// The distances among at most so many nodes are computed beforehand.
+/// The distances between at most this many nodes are computed beforehand.
 const MOST_MEASURED: usize = 256;
 
-/// The depot and the nodes of a route.
+/// The node of the depot, followed by those of a route.
 fn list_nodes(alloc: Global, cvrp: &Cvrp<'_>, route: &[u32]) -> Result<Vec<u32>, AllocError>
     requires { All (IsCity (customer_count (instance_of cvrp.now))) route.now }
     ensures value { IfOk result (λ v. v.items ≡ route_nodes (instance_of cvrp.now) route.now) }
@@ -37,7 +37,7 @@ fn list_nodes(alloc: Global, cvrp: &Cvrp<'_>, route: &[u32]) -> Result<Vec<u32>,
     Ok(nodes)
 }
 
-/// The places 1 to n.
+/// The positions 1 to n.
 fn list_places(alloc: Global, n: u32) -> Result<Vec<u32>, AllocError>
     ensures { IfOk result (λ v. v.items ≡ one_to n) }
 {
@@ -48,7 +48,7 @@ fn list_places(alloc: Global, n: u32) -> Result<Vec<u32>, AllocError>
     Ok(places)
 }
 
-/// The cities 1 to n, all of them awake.
+/// A queue with the cities 1 to n, all of them awake.
 fn wake_each_city(alloc: Global, n: u32) -> Result<Waking, AllocError>
     ensures size { IfOk result (λ w. w.size ≡ n) }
     ensures queue { IfOk result (λ w. w.queue ≡ one_to n) }
@@ -58,7 +58,7 @@ fn wake_each_city(alloc: Global, n: u32) -> Result<Waking, AllocError>
     Ok(waking)
 }
 
-/// A descent from 1, 2, .. with all cities awake.
+/// A descent from the tour 1, 2, .. n, with all cities awake: its result, and its report.
 fn descend_awake<M: Metric>(
     alloc: Global,
     metric: &M,
@@ -93,8 +93,8 @@ fn descend_awake<M: Metric>(
     Ok((tour, report))
 }
 
-/// The customers at the places of a cycle after the depot's, which is the first. The first of them is not greater than
-/// the last.
+/// The customers at the positions of a cycle after the first, which is the depot's. They are reversed if the first
+/// customer is greater than the last.
 fn read_off(alloc: Global, route: &[u32], cycle: &[u32]) -> Result<Vec<u32>, AllocError>
     requires some { 1 ≤ length route.now }
     requires tour { IsTour (length route.now + 1) cycle.now }
@@ -111,8 +111,8 @@ fn read_off(alloc: Global, route: &[u32], cycle: &[u32]) -> Result<Vec<u32>, All
     Ok(customers)
 }
 
-/// A route after a descent from the depot and the route, with all its nodes awake, and what the descent did. The metric
-/// has the distances among the depot and the nodes of the route.
+/// The improved route, and the report of its descent, which starts from the depot and the route with all of their nodes
+/// awake. The metric has the distances between these nodes.
 fn improve_over<M: Metric>(
     alloc: Global,
     cvrp: &Cvrp<'_>,
@@ -136,10 +136,11 @@ fn improve_over<M: Metric>(
     Ok((read_off(alloc, route, &cycle)?, report))
 }
 
-/// A route after a descent from the depot and the route, with all its nodes awake, and what the descent did.
+/// The improved route, and the report of its descent, which starts from the depot and the route with all of their nodes
+/// awake.
 ///
 /// # Errors
-/// `AllocError` where there is no memory for it.
+/// `AllocError` if memory runs out.
 pub(crate) fn improve_route(
     alloc: Global,
     cvrp: &Cvrp<'_>,

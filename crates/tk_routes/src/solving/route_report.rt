@@ -1,16 +1,16 @@
-//! What improving the routes did.
+//! The report of an improvement of routes.
 
-/// What improving the routes did.
+/// What an improvement of routes has done.
 #[derive(Clone, Copy, PartialEq, Eq, Debug)]
 pub struct RouteReport {
-    /// The cost of the routes at the call.
+    /// The cost of the routes before the improvement.
     pub before: i64,
-    /// The cost that was reached.
+    /// The cost of the routes after the improvement.
     pub after: i64,
-    /// How many moves were made.
+    /// The number of moves made.
     pub moves: u64,
-    /// How many gains were computed.
+    /// The number of gains computed.
     pub tests: u64,
-    /// How many swaps of two nodes the flips took.
+    /// The number of swaps of two nodes that the flips took.
     pub swaps: u64,
 }

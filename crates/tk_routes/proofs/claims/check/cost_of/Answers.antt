@@ -12,7 +12,7 @@ use Rattle.tk_routes.specs.RouteVerdicts.{AreServedOnce}
 use Rattle.tk_routes.specs.declared.cvrp.Cvrp.{Cvrp}
 use Rattle.tk_routes.proofs.claims.check.cost_of.Goals as goal
 
--- the cost of the first routes, with one more, and that it fits
+-- the cost of the first routes after one more is added, and that it fits in 64 bits
 one_more : (cvrp : Cvrp) (routes : List (Vec ℕ Global)) (k : ℕ) (item : Vec ℕ Global) (route : List ℕ) →
     k < length routes → item ≡ get_or routes k item → route ≡ item.items →
     AreServedOnce (customer_count (instance_of cvrp)) (concat (map (λ r. r.items) routes)) →

@@ -13,7 +13,7 @@ use Rattle.tk_routes.proofs.Costs.{route_length-limit}
 use Rattle.tk_routes.proofs.RouteSteps.{way_back-customer}
 use Rattle.tk_routes.proofs.cvrp.Cvrp.length.Goals as goal
 
--- no route is so long that its length does not fit
+-- the length of a route fits in 64 bits
 fitting : (cvrp : Cvrp) (route : List ℕ) → length route ≤ CITY_LIMIT →
     route_length (instance_of cvrp) route ≤ 1000000000000000
 fitting cvrp route few = omega (

@@ -16,14 +16,14 @@ use Rattle.tk_routes.proofs.Improving.ImprovedSteps.{tested_all, tests_by_fall}
 use Rattle.tk_routes.proofs.solving.improving.improve_each.Goals as goal
 use Rattle.tk_routes.proofs.solving.improving.improve_each.Goals.{In_ok-customers}
 
--- the list at a place, among the lists of cities
+-- the list at an index is the one among the lists of customers
 at_place : (lists : List (Vec ℕ Global)) (k : ℕ) (list : Vec ℕ Global) (route : List ℕ) → k < length lists →
     route ≡ (get_or lists k list).items → (k < length (lists_of lists)) × (route ≡ get_or (lists_of lists) k [])
 at_place lists k list route lt is =
     let items = λ (r : Vec ℕ Global). r.items in
     (omega (arith, lt, length-map lists items), is ∙ sym (get_or-map items lists k list [] lt))
 
--- one list more is improved, and the counts stay small
+-- one more list is improved, and the counters do not overflow
 stepped : (c : In_ok-customers) →
     IsImprovedTo (instance_of c.args.cvrp.now) c.args.max_candidates c.args.m (lists_of c.args.lists.now)
     (lists_of (set c.loop-k.lists c.loop-k.k c.in_ok-customers.customers)) (c.loop-k.k + 1)

@@ -15,7 +15,7 @@ length-before-requires-clause-cities g c =
     All-one_to (g.M.Metric.size_of c.args.metric.now) c.deref-2.result.now (c.deref-2.ensures.value
     ∙ c.in_ok-places.ensures ∙ ap one_to c.size-n.ensures)
 
--- the tour begins as 1, 2, .. to the size
+-- the tour at the start is 1, 2, .. n
 start : (g : Over) (c : In-Ok g) → order_of c.in-Ok.tour ≡ one_to (g.M.Metric.size_of c.args.metric.now)
 start g c =
     c.in-Ok.ensures.order ∙ c.deref.ensures.value ∙ c.in_ok-places.ensures ∙ ap one_to c.size-n.ensures
