@@ -3,7 +3,7 @@ use Rattle.std.proofs.Common.{◌≡◌, ℕ, ◌-◌, List, min, sym, ap, ◌�
 use Rattle.tk_near.specs.Near.{AreNearest, NearLists}
 use Rattle.tourkit_c.specs.Arrays.{AreNearIn}
 
--- near lists of this size and width, by their entries
+-- near lists of this size and width, given by their entries
 pub near_same : (distance : ℕ → ℕ → ℕ) (n k : ℕ) (v : NearLists) (out : List ℕ) → v.size ≡ n → v.width ≡ min k (n - 1) →
     out ≡ v.entries → AreNearest distance v → AreNearIn n distance k out
 near_same distance n k v out size width entries near =

@@ -1,11 +1,11 @@
--- Texts that were handed out, and the answers that tell their sizes.
+-- Texts that were written to buffers, and the answers with their sizes.
 use Rattle.std.proofs.Common.{◌≡◌, ℕ, List, length, ap, ◌∙◌}
 use Rattle.tourkit_c.specs.HandedOut.{handed_out}
 use Rattle.tourkit_c.specs.Outcomes.{with_status, with_status_twice}
 use Rattle.tourkit_c.specs.Texts.{AreWritten, IsWritten}
 use Rattle.tourkit_c.specs.declared.answer.Answer.{Answer}
 
--- a text, which the code lent as these bytes
+-- one text, which the code passes as these bytes
 pub written : {status s n : ℕ} {bytes text old new : List ℕ} {answer : Answer} → answer ≡ with_status s n → s ≡ status
     → n ≡ length bytes → new ≡ handed_out bytes old → bytes ≡ text → IsWritten status text old new answer
 written {status} {s} {n} {bytes} {text} {old} is same size put all = record {

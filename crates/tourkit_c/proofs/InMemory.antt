@@ -1,4 +1,4 @@
--- What is known of a source that is a text in memory, and of a sink that is a buffer.
+-- A text in memory as a source, and a buffer as a sink.
 use Rattle.std.proofs.Common.{Bor, List, Some, ℕ}
 use Rattle.std.specs.Global.{Vec}
 use Rattle.tk_words.specs.Sources.{has_failed}

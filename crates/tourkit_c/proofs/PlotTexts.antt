@@ -1,4 +1,4 @@
--- What the engine of `plot` says of its sources and sinks, as a fact of texts.
+-- The contract of the engine of `plot` on its sources and sinks, in terms of texts.
 use Rattle.std.proofs.Common.{◌≡◌, ℕ, Bool, true, List, [], Option, None, Some, Ok, Err, refl, sym, ap, ◌∙◌, subst}
 use Rattle.std.specs.Prelude.{MatchOption, is_some, unwrap_or}
 use Rattle.std.specs.Io.KnownBytes.{Appends}
@@ -19,7 +19,7 @@ use Rattle.tourkit_c.specs.Answers.{IsStop, NeverClashes}
 use Rattle.tourkit_c.specs.Plotted.{ClaimSays, IsPlotOf, IsSolutionFault, IsTourFault, line_in, picture_in, plot_misfit}
 use Rattle.tourkit_c.specs.Texts.{TextSays}
 
--- what is claimed, its text says
+-- the text contains the tour or the routes that were read
 pub claim_says : {S : Type 0} (given : Bool) (source : sources.Ghosts S) (old new : S) (text : List ℕ) (p : ProblemIs)
     (c : Claim) → source.left old ≡ Some text → ReadsClaim given source old new p (Ok c) → ClaimSays given text p c
 claim_says given source old new text p Nothing e h = h.0
@@ -28,7 +28,7 @@ claim_says given source old new text p (TourClaim cities) e h =
 claim_says given source old new text p (RoutesClaim s) e h =
     (h.0, h.1, says solution_texts source old new text s e h.2)
 
--- what an empty buffer took
+-- the bytes in a buffer that was empty before
 pub appended : (old new : Option (List ℕ)) (bs items : List ℕ) → old ≡ Some [] → new ≡ Some items →
     Appends old new bs → items ≡ bs
 appended old new bs items e i h =
@@ -52,7 +52,7 @@ written_of outs tolds out out' told told' items lines (Refused line) e i f j h =
   appended (tolds.taken told) (tolds.taken told') line lines f j h.1.0,
 )
 
--- what the engine gave, by what the texts say
+-- the output of the engine, in terms of its texts
 pub plot_said : {S C W T : Type 0} (source : sources.Ghosts S) (old new : S) (claims : sources.Ghosts C)
     (claim_old claim_new : C) (outs : sinks.Ghosts W) (out out' : W) (tolds : sinks.Ghosts T) (told told' : T)
     (given : Bool) (answer : Plotted) (problem claim items lines : List ℕ)
@@ -90,7 +90,7 @@ claim_stop_of given source old new problem claim e p said fits v is None r h =
 claim_stop_of given source old new problem claim e p said fits v is (Some routing) r h =
     solution_stop _ _ _ _ _ p said fits _ _ _ _ e v (λ f has. (is, ap is_some r, has)) h
 
--- what is claimed was refused
+-- the second text was rejected
 pub claim_stop : {C : Type 0} (source : sources.Ghosts C) (old new : C) (problem claim : List ℕ)
     (e : source.left old ≡ Some claim) (given : Bool) (p : ProblemIs) (v : Fault)
     → TextSays problem_texts problem p → plot_misfit p ≡ None → ReadsClaim given source old new p (Err v) →

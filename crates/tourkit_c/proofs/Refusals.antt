@@ -1,4 +1,4 @@
--- What a refusal tells of texts in memory, by the fault that an engine stopped at.
+-- What the answer to rejected texts reports, by the fault that stopped the engine.
 use Rattle.std.proofs.Common.{◌≡◌, ℕ, ◌+◌, ◌≤◌, ◌⊎◌, ◌∙◌, inl, inr, List, Option, Err, ap, arith, refl, subst}
 use Rattle.tk_text.specs.Problem.{ProblemIs, problem_texts}
 use Rattle.tk_text.specs.Texts.{IsToldOf, OfText, Texts, answer_of, cause_of}
@@ -21,7 +21,7 @@ use Rattle.tourkit_c.specs.Solved.{AreParamsRefused, HasParamFault}
 use Rattle.tourkit_c.specs.Texts.{HasFault}
 use Rattle.tourkit_c.specs.declared.answer.Answer.{Answer}
 
--- a refusal is of the text, and tells the line and the kind of its fault
+-- an answer with status 2 reports a fault of the text itself, with its line and kind
 told_kind : (number line : ℕ) (kind : TextKind) (answer : Answer) → answer.status ≡ 2
     → answer ≡ kind_answer kind number line answer.needed
     → (answer ≡ refused number line (text_number kind) answer.needed) × (cause_of kind ≡ OfText)
@@ -40,7 +40,7 @@ faulty texts number text f answer two cause is h =
       is = subst (IsToldOf (Unit {0}) (λ e. answer_of texts text ≡ Err e) f) (cause ∙ told.1) h;
     }
 
--- the same of parameters, the first text
+-- like told_kind, for the parameters, which are the first text
 told_params : (line : ℕ) (kind : ParamKind) (answer : Answer) → answer.status ≡ 2
     → answer ≡ param_kind_answer kind line answer.needed
     → (answer ≡ refused 1 line (param_number kind) answer.needed) × (param_cause_of kind ≡ OfText)
@@ -58,7 +58,7 @@ params_refused parameters f answer two is h =
       is = subst (IsToldOf (Unit {0}) (λ e. params_answer parameters ≡ Err e) f) told.1 h;
     }
 
--- a tour that clashes with the problem is the third text
+-- the answer to a clash reports the third text, the initial tour
 clash_text : (f : TourFault) (answer : Answer) → answer.status ≡ 2 → answer ≡ clash_answer f answer.needed →
     answer.text ≡ 3
 clash_text tours.NoMemory answer two is = absurd (omega (arith, ap (λ (a : Answer). a.status) is))
@@ -97,7 +97,7 @@ module _ (misfit : ProblemIs → Option Fault) (Clash : ProblemIs → TourFault 
         is_misfit = λ _. h;
       }
 
-  -- the refusal of an engine's fault is right
+  -- the answer to a fault that stopped an engine is correct
   pub right_refusal : (Tour Solution : ProblemIs → TextFault → Type 0) → answer.status ≡ 2
       → ((p : ProblemIs) (f : TextFault) → Tour p f → answer ≡ text_answer (first + 1) f answer.needed →
       Second p answer)
@@ -124,7 +124,7 @@ module _ (misfit : ProblemIs → Option Fault) (Clash : ProblemIs → TourFault 
       absurd (omega (arith, ap (λ (a : Answer). a.status) is))
   right_refusal Tour Solution two tour solution clash v is h = misfit_refused (v, h, is)
 
--- the same where the problem is the only text
+-- like right_refusal, if the problem is the only text
 pub problem_refusal : (misfit : ProblemIs → Option Fault) (problem : List ℕ) (answer : Answer) → answer.status ≡ 2 →
     (v : Fault) → answer ≡ fault_answer 1 v answer.needed → IsStop misfit NeverClashes NoFault NoFault problem v →
     IsRightRefusal misfit NeverClashes NoRefusal 1 problem answer

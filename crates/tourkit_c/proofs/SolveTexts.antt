@@ -1,4 +1,4 @@
--- What the engine of `solve` says of its sources and sinks, as a fact of texts.
+-- The contract of the engine of `solve` on its sources and sinks, in terms of texts.
 use Rattle.std.proofs.Common.{◌≡◌, ℕ, Bool, List, [], Option, None, Some, Ok, Err, ◌∙◌, ap, subst, sym}
 use Rattle.std.specs.Prelude.{is_some}
 use Rattle.tk_text.specs.Problem.{ProblemIs, problem_texts}
@@ -20,7 +20,7 @@ use Rattle.tourkit_c.specs.Answers.{IsStop, NoFault}
 use Rattle.tourkit_c.specs.Solved.{InitialSays, IsClashOf, IsInitialFault, IsSolvedBy, misfit_of}
 use Rattle.tourkit_c.specs.Texts.{TextSays}
 
--- the tour to begin with, its text says
+-- the text contains the initial tour that was read
 initial_says : {S : Type 0} (given : Bool) (source : sources.Ghosts S) (old new : S) (text : List ℕ)
     (tour : Option (List ℕ)) → source.left old ≡ Some text → ReadsInitial given source old new (Ok tour) →
     InitialSays given text tour
@@ -33,7 +33,7 @@ files_same f file out e i =
     ap (λ (l : List ℕ). record { file = l; out = f.out }) (sym e)
     ∙ ap (λ (l : List ℕ). record { file = file; out = l }) (sym i)
 
--- what the engine gave, by what the texts say
+-- the output of the engine, in terms of its texts
 pub solve_said : {S I F W : Type 0} (source : sources.Ghosts S) (old new : S) (initials : sources.Ghosts I)
     (initial_old initial_new : I) (files : sinks.Ghosts F) (file file' : F) (outs : sinks.Ghosts W) (out out' : W)
     (params : ParamsAre) (before after : Unwatched) (problem initial items lines : List ℕ)
@@ -63,10 +63,10 @@ solve_said source old new initials initial_old initial_new files file file' outs
       gives = subst (λ (w : Files). task.Gives h.problem h.second tt w) same h.gives;
     }
 
--- a tour to begin with, of a problem that was read
+-- the text of an initial tour, after the problem was read
 module _ {S : Type 0} (source : sources.Ghosts S) (old new : S) (params : ParamsAre)
     (problem initial : List ℕ) (e : source.left old ≡ Some initial) (p : ProblemIs) where
-  -- it was refused
+  -- it was rejected
   pub initial_stop : (v : Fault) → TextSays problem_texts problem p → misfit_of params p ≡ None
       → ReadsInitial (is_some params.initial_tour_file) source old new (Err v) →
       IsStop (misfit_of params) (IsClashOf (is_some params.initial_tour_file) initial)

@@ -1,4 +1,4 @@
--- Where an engine over texts in memory stopped.
+-- Why an engine on texts in memory stopped.
 use Rattle.std.proofs.Common.{◌≡◌, ℕ, List, Option, None, Some, Ok, Err, sym, subst}
 use Rattle.tk_text.specs.Problem.{ProblemIs, problem_texts}
 use Rattle.tk_text.specs.Solution.{solution_texts}
@@ -15,7 +15,7 @@ use Rattle.tourkit_c.proofs.TextsSaid.{has_fault, says}
 use Rattle.tourkit_c.specs.Answers.{IsStop}
 use Rattle.tourkit_c.specs.Texts.{HasFault, TextSays}
 
--- the text of a tour, or of a solution, was refused, of a problem that fits
+-- the problem fits, and the tour text or the solution text was rejected
 module _ {S : Type 0} (misfit : ProblemIs → Option Fault) (Clash : ProblemIs → TourFault → Type 0)
     (Tour Solution : ProblemIs → TextFault → Type 0) (problem : List ℕ) (p : ProblemIs)
     (said : TextSays problem_texts problem p) (fits : misfit p ≡ None) (source : sources.Ghosts S)

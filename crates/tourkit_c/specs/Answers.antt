@@ -1,4 +1,4 @@
--- Why an engine stopped at texts in memory, and what a refusal tells of them.
+-- Why an engine on texts in memory stopped, and correct reports of rejected texts.
 use Rattle.std.specs.Prelude.{◌≡◌, ◌+◌, ◌⊎◌, ℕ, List, Option, Some, None, Err}
 use Rattle.tk_text.specs.Texts.{Texts, answer_of}
 use Rattle.tk_text.specs.Problem.{ProblemIs, problem_texts}
@@ -10,7 +10,7 @@ use Rattle.tourkit_c.specs.Outcomes.{clash_answer, misfit_number, refused, text_
 use Rattle.tourkit_c.specs.Texts.{HasFault, TextSays}
 use Rattle.tourkit_c.specs.declared.answer.Answer.{Answer}
 
--- the text has the fault that the answer tells
+-- the text has the fault that the answer reports
 pub record IsFaulty {V : Type 0} (texts : Texts V TextFault) (number : ℕ) (text : List ℕ)
     (answer : Answer) : Type 0 where
   pub fault : TextFault
@@ -27,7 +27,7 @@ pub record IsMisfitOf (misfit : ProblemIs → Option Fault) (problem : List ℕ)
 abbrev pub fits_any : ProblemIs → Option Fault
 fits_any p = None
 
--- the problem of a text fits the task, and this is so of it
+-- the problem of a text fits the task, and Fact is true of it
 pub record IsFitAnd (misfit : ProblemIs → Option Fault) (problem : List ℕ) (Fact : ProblemIs → Type 0) : Type 0 where
   pub p : ProblemIs
   pub is_problem : TextSays problem_texts problem p
@@ -42,8 +42,8 @@ NoFault p f = ⊥
 abbrev pub NeverClashes : ProblemIs → TourFault → Type 0
 NeverClashes p f = ⊥
 
--- an engine stopped at the fault of the problem's text, at a problem that does not fit, at the fault of a tour's text
--- or of a solution's where the problem fits, at a tour that clashes with a problem that fits, or otherwise
+-- why an engine stopped: the problem text has a fault; the problem does not fit; or it fits, and the tour text or the
+-- solution text has a fault, or the tour clashes with the problem. Nothing is known if memory ran out or a write failed
 abbrev pub IsStop : (ProblemIs → Option Fault) → (ProblemIs → TourFault → Type 0) → (ProblemIs → TextFault → Type 0) →
     (ProblemIs → TextFault → Type 0) → List ℕ → Fault → Type 0
 IsStop misfit Clash Tour Solution problem (faults.Problem f) = HasFault problem_texts problem f
@@ -56,17 +56,18 @@ IsStop misfit Clash Tour Solution problem faults.TooLarge = IsMisfitOf misfit pr
 IsStop misfit Clash Tour Solution problem faults.NoPlaces = IsMisfitOf misfit problem faults.NoPlaces
 IsStop misfit Clash Tour Solution problem _ = Unit {0}
 
--- the answer tells why the problem of a text does not fit
+-- the answer reports why the problem of a text does not fit
 abbrev pub IsMisfitAnswer : (ProblemIs → Option Fault) → List ℕ → Answer → Type 0
 IsMisfitAnswer misfit problem answer =
     (f : Fault) × IsMisfitOf misfit problem f × (answer ≡ refused 0 0 (misfit_number f) answer.needed)
 
--- no second text is refused
+-- no second text is rejected
 abbrev pub NoRefusal : ProblemIs → Answer → Type 0
 NoRefusal p answer = ⊥
 
--- what a refusal tells is so: the problem's text, which is the `first`, has the fault that it tells; or the problem
--- does not fit, for the reason that it tells; or it fits, and the second text has the fault, or clashes with it
+-- the answer reports correctly why a call was rejected: the problem text, whose number is `first`, has the fault; or
+-- the problem does not fit, for the reason that is reported; or it fits, and the second text has the fault, or clashes
+-- with the problem
 pub record IsRightRefusal (misfit : ProblemIs → Option Fault) (Clash : ProblemIs → TourFault → Type 0)
     (Second : ProblemIs → Answer → Type 0) (first : ℕ) (problem : List ℕ) (answer : Answer) : Type 0 where
   pub known : (answer.text ≡ 0) ⊎ ((answer.text ≡ first) ⊎ (answer.text ≡ first + 1))

@@ -1,4 +1,4 @@
--- Arrays of numbers: distances and near lists, and what is told of a list.
+-- Arrays of numbers: distances, near lists, and the verdict on a list.
 use Rattle.std.specs.Prelude.{◌≡◌, ◌≢◌, ◌≤◌, ◌<◌, ◌*◌, ◌/◌, ◌%◌, ◌+◌, ◌-◌, ℕ, ℤ, pos, List, length, slice_index_or, min}
 use Rattle.tk_text.specs.Problem.{ProblemIs, problem_texts}
 use Rattle.tk_engines.specs.ReadProblems.{read_distance}
@@ -10,7 +10,7 @@ use Rattle.tourkit_c.specs.Outcomes.{with_status, verdict_answer}
 use Rattle.tourkit_c.specs.Texts.{TextSays}
 use Rattle.tourkit_c.specs.declared.answer.Answer.{Answer}
 
--- the distances of n cities, row by row: that of cities a and b at (a - 1) n + (b - 1)
+-- the distances of n cities, row by row: the distance of cities a and b is at index (a - 1) n + (b - 1)
 pub record AreDistances (n : ℕ) (distance : ℕ → ℕ → ℕ) (entries : List ℤ) : Type 0 where
   pub count : length entries ≡ n * n
   pub each : (i : ℕ) → i < n * n → slice_index_or entries i (pos 0) ≡ pos (distance (i / n + 1) (i % n + 1))
@@ -21,7 +21,7 @@ pub record AreDistancesOf (problem : List ℕ) (entries : List ℤ) : Type 0 whe
   pub is_problem : TextSays problem_texts problem p
   pub are : AreDistances p.n (read_distance p.weights) entries
 
--- the near lists of n cities, one after another: k cities each, or all others where there are fewer
+-- the near lists of n cities, one after another: k cities each, or all other cities if there are fewer
 abbrev pub AreNearIn : ℕ → (ℕ → ℕ → ℕ) → ℕ → List ℕ → Type 0
 AreNearIn n distance k entries =
     AreNearest distance (record { size = n; width = min k (n - 1); entries = entries })
@@ -32,8 +32,8 @@ pub record AreNearOf (k : ℕ) (problem : List ℕ) (entries : List ℕ) : Type 
   pub is_problem : TextSays problem_texts problem p
   pub are : AreNearIn p.n (read_distance p.weights) k entries
 
--- what the status says of an array with so many numbers: it is 0 where just as many are needed, which are written, and
--- 4 where another number of them is needed; it is not 1, since nothing is claimed. Nothing is needed after a refusal
+-- the status for an array with `count` entries: 0 if exactly as many are needed, and 4 if another number is needed. It
+-- is never 1, since there is no tour to check. After a rejection, or if memory ran out, `needed` is 0
 pub record IsArrayStatus (count : ℕ) (answer : Answer) : Type 0 where
   pub known : answer.status ≤ 4
   pub unclaimed : answer.status ≢ 1
@@ -42,17 +42,17 @@ pub record IsArrayStatus (count : ℕ) (answer : Answer) : Type 0 where
   pub memory : answer.status ≡ 3 → answer ≡ with_status 3 0
   pub misfits : answer.status ≡ 4 → answer.needed ≢ count
 
--- how many numbers there are, told in place of them
+-- the status is 4, and `needed` is the number of entries
 abbrev pub IsCountOf : (ProblemIs → ℕ) → List ℕ → Answer → Type 0
 IsCountOf count problem answer = (p : ProblemIs) × TextSays problem_texts problem p × (answer ≡ with_status 4 (count p))
 
--- what an answer tells of a list as a tour: its length, or the number of its first fault and the place of that
+-- the answer reports the verdict on a list as a tour: its length, or the number of its first fault and its position
 pub record HasVerdict (n : ℕ) (distance : ℕ → ℕ → ℕ) (cities : List ℕ) (answer : Answer) : Type 0 where
   pub verdict : Verdict
   pub is : IsVerdict n cities verdict
   pub answer_is : answer ≡ verdict_answer verdict (tour_length distance cities)
 
--- the same of a list as a tour of the problem of a text
+-- the answer reports the verdict on a list as a tour of the problem of a text
 pub record IsTourCheckOf (problem cities : List ℕ) (answer : Answer) : Type 0 where
   pub p : ProblemIs
   pub is_problem : TextSays problem_texts problem p

@@ -1,4 +1,4 @@
--- What an answer is, by what came of a call: each field, and 0 where there is nothing to tell.
+-- The answers of calls, by their outcome. Fields that do not apply are 0.
 use Rattle.std.specs.Prelude.{◌≡◌, ◌≤◌, ◌+◌, ℕ}
 use Rattle.tk_tour.specs.declared.fault.TourFault.{TourFault}
 use Rattle.tk_tour.specs.declared.fault.TourFault.TheVariants as tours
@@ -14,12 +14,12 @@ use Rattle.tk_params.specs.declared.fault.ParamKind.{ParamKind}
 use Rattle.tk_params.specs.declared.fault.ParamKind.TheVariants as params
 use Rattle.tourkit_c.specs.declared.answer.Answer.{Answer}
 
--- a status, and how many bytes or numbers there are to write
+-- a status, and the number of bytes or numbers to write
 abbrev pub with_status : ℕ → ℕ → Answer
 with_status status needed =
     record { status = status; text = 0; line = 0; kind = 0; place = 0; length = 0; needed = needed; needed_file = 0 }
 
--- the same for two buffers
+-- a status, and the numbers of bytes to write to two buffers
 abbrev pub with_status_twice : ℕ → ℕ → ℕ → Answer
 with_status_twice status needed needed_file = record {
   status = status;
@@ -32,11 +32,12 @@ with_status_twice status needed needed_file = record {
   needed_file = needed_file;
 }
 
--- a list that is a tour of this length, or that has a fault at a place
+-- the list is a tour of this length
 abbrev pub of_length : ℕ → Answer
 of_length length =
     record { status = 0; text = 0; line = 0; kind = 0; place = 0; length = length; needed = 0; needed_file = 0 }
 
+-- the list has this fault at this position, which is 0 for a wrong count
 abbrev pub found : ℕ → ℕ → Answer
 found kind place =
     record { status = 1; text = 0; line = 0; kind = kind; place = place; length = 0; needed = 0; needed_file = 0 }
@@ -47,7 +48,7 @@ verdict_answer verdicts.WrongCount length = found 20 0
 verdict_answer (verdicts.OutOfRange place) length = found 21 place
 verdict_answer (verdicts.RepeatedCity place) length = found 22 place
 
--- which text was refused, its line, the number of its fault, and how many bytes the message has
+-- the number of the rejected text, the line and the number of its fault, and the number of bytes of the message
 abbrev pub refused : ℕ → ℕ → ℕ → ℕ → Answer
 refused text line kind needed = record {
   status = 2;
@@ -60,7 +61,7 @@ refused text line kind needed = record {
   needed_file = 0;
 }
 
--- a tour to begin with, the third text, clashes with the problem at a place
+-- the initial tour, which is the third text, clashes with the problem at this position, which is 0 for a wrong count
 abbrev pub clashing : ℕ → ℕ → ℕ → Answer
 clashing kind place needed =
     record { status = 2; text = 3; line = 0; kind = kind; place = place; length = 0; needed = needed; needed_file = 0 }
@@ -71,7 +72,7 @@ clash_answer (tours.OutOfRange place) needed = clashing 21 place needed
 clash_answer (tours.RepeatedCity place) needed = clashing 22 place needed
 clash_answer tours.NoMemory needed = with_status 3 needed
 
--- the number of a kind of fault, as the message has it
+-- the number of a kind of fault, as in its message
 abbrev pub text_number : TextKind → ℕ
 text_number kinds.UnknownKeyword = 1
 text_number kinds.Repeated = 2
@@ -99,7 +100,7 @@ param_number params.TooLong = 6
 param_number params.Read = 7
 param_number params.NoMemory = 8
 
--- the number of what keeps a problem from a task
+-- the number of the reason why a problem does not fit a task
 abbrev pub misfit_number : Fault → ℕ
 misfit_number faults.WrongType = 16
 misfit_number (faults.NotForType key) = 17
@@ -107,8 +108,8 @@ misfit_number faults.TooLarge = 18
 misfit_number faults.NoPlaces = 19
 misfit_number _ = 0
 
--- the line and the number of a fault of a text; a refusal of memory has a status of its own, and so has a failed read,
--- which no text in memory gives
+-- the answer for a fault of a text: its line and number; or status 3, if memory ran out or a read failed, which does
+-- not happen to a text in memory
 abbrev pub kind_answer : TextKind → ℕ → ℕ → ℕ → Answer
 kind_answer kinds.NoMemory text line needed = with_status 3 needed
 kind_answer kinds.Read text line needed = with_status 3 needed
@@ -117,7 +118,7 @@ kind_answer kind text line needed = refused text line (text_number kind) needed
 abbrev pub text_answer : ℕ → TextFault → ℕ → Answer
 text_answer text fault needed = kind_answer fault.kind text fault.line needed
 
--- the same of parameters, the first text
+-- like kind_answer, for the parameters, which are the first text
 abbrev pub param_kind_answer : ParamKind → ℕ → ℕ → Answer
 param_kind_answer params.NoMemory line needed = with_status 3 needed
 param_kind_answer params.Read line needed = with_status 3 needed
@@ -126,7 +127,8 @@ param_kind_answer kind line needed = refused 1 line (param_number kind) needed
 abbrev pub param_answer : ParamFault → ℕ → Answer
 param_answer fault needed = param_kind_answer fault.kind fault.line needed
 
--- what ended an engine, whose problem is the text of this number and whose other text is the next
+-- the answer for a fault that stopped an engine; `problem` is the number of the problem text, and the other text has
+-- the next number
 abbrev pub fault_answer : ℕ → Fault → ℕ → Answer
 fault_answer problem (faults.Problem f) needed = text_answer problem f needed
 fault_answer problem (faults.Tour f) needed = text_answer (problem + 1) f needed
@@ -136,7 +138,8 @@ fault_answer problem (faults.Write f) needed = with_status 3 needed
 fault_answer problem faults.NoMemory needed = with_status 3 needed
 fault_answer problem f needed = refused 0 0 (misfit_number f) needed
 
--- a call that failed: a text or an argument was refused, or there was no memory, of which nothing more is told
+-- a call that failed, with a message of `needed` bytes: it was rejected, or memory ran out, and then all other fields
+-- are 0
 pub record IsFailure (needed : ℕ) (answer : Answer) : Type 0 where
   pub failed : 2 ≤ answer.status
   pub known : answer.status ≤ 3

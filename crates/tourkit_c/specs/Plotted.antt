@@ -1,4 +1,4 @@
--- What `plot` gives for texts in memory.
+-- The output of `plot` for texts in memory.
 use Rattle.std.specs.Prelude.{◌≡◌, ◌⊎◌, Option, ℕ, Bool, true, false, List, [], None, is_some}
 use Rattle.tk_text.specs.Problem.{ProblemIs, problem_texts}
 use Rattle.tk_text.specs.Solution.{solution_texts}
@@ -14,7 +14,7 @@ use Rattle.tourkit_c.specs.Texts.{AreWritten, HasFault, TextSays, route_status, 
 use Rattle.tk_words.specs.declared.fault.TextFault.{TextFault}
 use Rattle.tourkit_c.specs.declared.answer.Answer.{Answer}
 
--- what is claimed of a problem: nothing, or a tour, or routes where the problem has a routing
+-- the contents of the second text: nothing if there is none, a tour if the problem has no routing, otherwise routes
 abbrev pub ClaimSays : Bool → List ℕ → ProblemIs → Claim → Type 0
 ClaimSays given text p Nothing = given ≡ false
 ClaimSays given text p (TourClaim cities) = (given ≡ true) × (p.routing ≡ None) × TextSays tour_texts text cities
@@ -27,13 +27,13 @@ pub record IsPlotOf (given : Bool) (problem claim : List ℕ) (answer : Plotted)
   pub is_claim : ClaimSays given claim p c
   pub is : IsPlot forms.Svg p c answer output
 
--- 1 where what is claimed has a fault
+-- 1 if the tour or the routes have a fault, otherwise 0
 abbrev pub plot_status : Plotted → ℕ
 plot_status plotted.Cities = 0
 plot_status (plotted.Tour v) = tour_status v
 plot_status (plotted.Routes v) = route_status v
 
--- the picture and the line on a fault, one of which is empty
+-- the picture and the line that reports a fault, one of which is empty
 abbrev pub picture_in : Output → List ℕ
 picture_in (Drawn picture) = picture
 picture_in (Refused line) = []
@@ -42,25 +42,27 @@ abbrev pub line_in : Output → List ℕ
 line_in (Drawn picture) = []
 line_in (Refused line) = line
 
--- the picture of a problem and of what is claimed of it, or the line on its fault, stands in one of two buffers
+-- the picture of a problem and of its tour or routes was written to one buffer, or the line that reports their fault to
+-- the other
 abbrev pub HoldPlot : Bool → List ℕ → List ℕ → List ℕ → List ℕ → List ℕ → List ℕ → Answer → Type 0
 HoldPlot given problem claim out out' told told' answer =
     (done : Plotted) × (output : Output) × IsPlotOf given problem claim done output
     × AreWritten (plot_status done) (picture_in output) out out' (line_in output) told told' answer
 
--- a picture is made of places
+-- a problem without coordinates cannot be drawn
 abbrev pub plot_misfit : ProblemIs → Option Fault
 plot_misfit p = without_places p.weights
 
--- what is claimed is a tour, since the problem has no routing, and has this fault
+-- the second text is a tour text, since the problem has no routing, and has this fault
 abbrev pub IsTourFault : Bool → List ℕ → ProblemIs → TextFault → Type 0
 IsTourFault given claim p f = (given ≡ true) × (p.routing ≡ None) × HasFault tour_texts claim f
 
--- what is claimed is a solution, since the problem has a routing, and has this fault
+-- the second text is a solution text, since the problem has a routing, and has this fault
 abbrev pub IsSolutionFault : Bool → List ℕ → ProblemIs → TextFault → Type 0
 IsSolutionFault given claim p f = (given ≡ true) × (is_some p.routing ≡ true) × HasFault solution_texts claim f
 
--- what is claimed has the fault that the answer tells: as a tour where the problem has no routing, else as a solution
+-- the second text has the fault that the answer reports: as a tour text if the problem has no routing, otherwise as a
+-- solution text
 abbrev pub IsClaimRefused : Bool → List ℕ → ProblemIs → Answer → Type 0
 IsClaimRefused given claim p answer =
     (given ≡ true) × (((p.routing ≡ None) × IsFaulty tour_texts 2 claim answer)

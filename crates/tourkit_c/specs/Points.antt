@@ -1,4 +1,4 @@
--- Cities by their coordinates in two arrays.
+-- Cities with their coordinates in two arrays.
 use Rattle.std.specs.Prelude.{◌≡◌, ◌≤◌, ◌<◌, ℕ, ℤ, pos, List, length, slice_index_or}
 use Rattle.tk_problem.specs.declared.limits.TheConstants.{CITY_LIMIT}
 use Rattle.tk_problem.specs.declared.point.Point.{Point}
@@ -17,24 +17,24 @@ kind_number kinds.Man2d = 2
 kind_number kinds.Max2d = 3
 kind_number kinds.Att = 4
 
--- the place with the coordinates at an index
+-- the point with the coordinates at an index
 abbrev pub place_at : List ℤ → List ℤ → ℕ → Point
 place_at xs ys i = record { x = slice_index_or xs i (pos 0); y = slice_index_or ys i (pos 0) }
 
--- the coordinates of 2 to 100,000 places, none too far away
+-- the coordinates of 2 to 100,000 points, all within the limit
 pub record CanBePlaces (xs ys : List ℤ) : Type 0 where
   pub some : 2 ≤ length xs
   pub few : length xs ≤ CITY_LIMIT
   pub count : length ys ≡ length xs
   pub near : (i : ℕ) → i < length xs → IsNearOrigin (place_at xs ys i)
 
--- the places with these coordinates
+-- the points with these coordinates
 pub record ArePlaces (xs ys : List ℤ) (places : List Point) : Type 0 where
   pub count : length places ≡ length xs
   pub others : length ys ≡ length xs
   pub each : (i : ℕ) → i < length xs → slice_index_or places i origin ≡ place_at xs ys i
 
--- the near lists of the cities at these places, one after another
+-- the near lists of the cities at these points, one after another
 pub record ArePointsNear (kind : ℕ) (xs ys : List ℤ) (k : ℕ) (entries : List ℕ) : Type 0 where
   pub type : PlaneKind
   pub places : List Point
@@ -42,7 +42,7 @@ pub record ArePointsNear (kind : ℕ) (xs ys : List ℤ) (k : ℕ) (entries : Li
   pub are : ArePlaces xs ys places
   pub near : AreNearIn (length xs) (city_distance type places) k entries
 
--- what is told of a list as a tour of the cities at these places
+-- the answer reports the verdict on a list as a tour of the cities at these points
 pub record IsPointsCheck (kind : ℕ) (xs ys : List ℤ) (cities : List ℕ) (answer : Answer) : Type 0 where
   pub type : PlaneKind
   pub places : List Point

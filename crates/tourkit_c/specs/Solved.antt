@@ -1,4 +1,4 @@
--- What `solve` gives for texts in memory.
+-- The output of `solve` for texts in memory.
 use Rattle.std.specs.Prelude.{◌≡◌, ℕ, Bool, true, false, List, Option, None, Some, Ok, Err, is_some, option_map}
 use Rattle.tk_text.specs.Problem.{ProblemIs, problem_texts}
 use Rattle.tk_text.specs.Tour.{tour_texts}
@@ -17,13 +17,13 @@ use Rattle.tourkit_c.specs.Outcomes.{param_number, refused}
 use Rattle.tourkit_c.specs.Texts.{AreWritten, HasFault, TextSays}
 use Rattle.tourkit_c.specs.declared.answer.Answer.{Answer}
 
--- the tour to begin with, where the parameters name one
+-- the initial tour, if the parameters name one
 abbrev pub InitialSays : Bool → List ℕ → Option (List ℕ) → Type 0
 InitialSays given text None = given ≡ false
 InitialSays given text (Some cities) = (given ≡ true) × TextSays tour_texts text cities
 
--- what these parameters give for a problem and a tour to begin with: the text of the tour or of the routes, and the
--- lines on it; nobody watches the search
+-- the output of a search with these parameters, for a problem and an initial tour: the text of the tour or of the
+-- solution, and the lines that are printed. The observer of the search does nothing
 pub record IsSolvedBy (p : ParamsAre) (problem initial : List ℕ) (files : Files) : Type 0 where
   pub q : ProblemIs
   pub tour : Option (List ℕ)
@@ -39,47 +39,48 @@ pub record IsSolvedOf (parameters problem initial : List ℕ) (files : Files) : 
   pub are : params_answer parameters ≡ Ok p
   pub solved : IsSolvedBy p problem initial files
 
--- the tour to begin with, which is given, has this fault as a tour of the problem's cities
+-- an initial tour is given, and has this fault as a tour of the problem's cities
 pub record IsClashOf (given : Bool) (initial : List ℕ) (q : ProblemIs) (f : TourFault) : Type 0 where
   pub is_given : given ≡ true
   pub cities : List ℕ
   pub is_tour : TextSays tour_texts initial cities
   pub clash : IsInitial q (Some cities) (Some (Initial f))
 
--- the text of a tour to begin with, which is given, has this fault
+-- the text of an initial tour is given, and has this fault
 abbrev pub IsInitialFault : Bool → List ℕ → ProblemIs → TextFault → Type 0
 IsInitialFault given initial p f = (given ≡ true) × HasFault tour_texts initial f
 
--- it has the fault that the answer tells
+-- the text of an initial tour is given, and has the fault that the answer reports
 abbrev pub IsInitialFaulty : Bool → List ℕ → ProblemIs → Answer → Type 0
 IsInitialFaulty given initial p answer = (given ≡ true) × IsFaulty tour_texts 3 initial answer
 
--- what keeps a problem from what parameters ask for: the first key that its type has no use for
+-- why a problem does not fit the parameters: the first key that does not apply to its type
 abbrev pub misfit_of : ParamsAre → ProblemIs → Option Fault
 misfit_of p problem = option_map NotForType (unfit_key p problem)
 
--- parameters have this fault; of faults of memory and of reading nothing is said
+-- the parameters have this fault; nothing is known if memory ran out or reading failed
 abbrev pub HasParamFault : List ℕ → ParamFault → Type 0
 HasParamFault = HasFault params_texts
 
--- the parameters have the fault that the answer tells
+-- the parameters have the fault that the answer reports
 pub record AreParamsRefused (parameters : List ℕ) (answer : Answer) : Type 0 where
   pub fault : ParamFault
   pub told : answer ≡ refused 1 fault.line (param_number fault.kind) answer.needed
   pub is : params_answer parameters ≡ Err fault
 
--- the files that solve a problem stand in the two buffers
+-- output that satisfies Solves was written to the two buffers
 abbrev pub HoldFiles : (Files → Type 0) → List ℕ → List ℕ → List ℕ → List ℕ → Answer → Type 0
 HoldFiles Solves out out' file file' answer =
     (files : Files) × Solves files × AreWritten 0 files.out out out' files.file file file' answer
 
--- what the answer tells keeps these parameters from being searched with: the problem, or the tour to begin with
+-- the answer reports correctly why there was no search: the problem text or the initial tour has a fault, or a key does
+-- not apply to the problem
 abbrev pub IsSearchRefused : ParamsAre → List ℕ → List ℕ → Answer → Type 0
 IsSearchRefused p problem initial answer =
     IsRightRefusal (misfit_of p) (IsClashOf (is_some p.initial_tour_file) initial)
     (IsInitialFaulty (is_some p.initial_tour_file) initial) 2 problem answer
 
--- the same of the parameters of a text
+-- like IsSearchRefused, for the parameters of a text
 abbrev pub IsSolveRefused : List ℕ → List ℕ → List ℕ → Answer → Type 0
 IsSolveRefused parameters problem initial answer =
     (p : ParamsAre) × (params_answer parameters ≡ Ok p) × IsSearchRefused p problem initial answer

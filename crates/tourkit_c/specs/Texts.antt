@@ -1,7 +1,7 @@
--- What is said of texts in memory.
---     TextSays texts text value      the text says this value
---     HasFault texts text fault      the text has this fault, or memory ran out
---     IsCheckOf problem tour verdict line      the verdict on the tour of a text, and the line on it
+-- The contents of texts in memory, and the writing of texts to buffers.
+--     TextSays texts text value      the text contains this value
+--     HasFault texts text fault      the text has this fault, or memory ran out, or reading failed
+--     IsCheckOf problem tour verdict line      the verdict on the tour of a text, and the line that reports it
 use Rattle.std.specs.Prelude.{◌≡◌, ℕ, List, Ok, Err, length}
 use Rattle.tk_text.specs.Texts.{IsToldOf, Texts, answer_of}
 use Rattle.tk_text.specs.Problem.{ProblemIs, problem_texts}
@@ -20,15 +20,15 @@ use Rattle.tk_engines.specs.MatrixOf.{IsMatrixText}
 use Rattle.tk_engines.specs.NearText.{IsNearText}
 use Rattle.tk_engines.specs.RouteCheck.{IsRouteCheck}
 
--- a text says this value
+-- the text contains this value
 abbrev pub TextSays : {V E : Type 0} → Texts V E → List ℕ → V → Type 0
 TextSays texts text value = answer_of texts text ≡ Ok value
 
--- a text has this fault; of faults of memory and of reading nothing is said
+-- the text has this fault; nothing is known if memory ran out or reading failed
 abbrev pub HasFault : {V E : Type 0} → Texts V E → List ℕ → E → Type 0
 HasFault texts text fault = IsToldOf (Unit {0}) (λ f. answer_of texts text ≡ Err f) fault (texts.cause fault)
 
--- the verdict on the tour of one text among the cities of another, and the line on it
+-- the verdict on the tour of one text for the problem of another, and the line that reports it
 pub record IsCheckOf (problem tour : List ℕ) (verdict : Verdict) (line : List ℕ) : Type 0 where
   pub p : ProblemIs
   pub cities : List ℕ
@@ -45,7 +45,7 @@ abbrev pub route_status : RouteVerdict → ℕ
 route_status (routes.Valid count cost) = 0
 route_status _ = 1
 
--- the verdict on the routes of one text in the problem of another, and the line on it
+-- the verdict on the routes of one text for the problem of another, and the line that reports it
 pub record IsRouteCheckOf (problem solution : List ℕ) (verdict : RouteVerdict) (line : List ℕ) : Type 0 where
   pub p : ProblemIs
   pub claimed : Solution
@@ -53,32 +53,32 @@ pub record IsRouteCheckOf (problem solution : List ℕ) (verdict : RouteVerdict)
   pub is_solution : TextSays solution_texts solution claimed
   pub is : IsRouteCheck p claimed verdict line
 
--- the near lists of the problem of a text
+-- the text of the near lists of the problem of another text
 pub record IsNearTextOf (k : ℕ) (problem text : List ℕ) : Type 0 where
   pub p : ProblemIs
   pub is_problem : TextSays problem_texts problem p
   pub is : IsNearText k p text
 
--- the matrix of the problem of a text
+-- the text of the matrix of the problem of another text
 pub record IsMatrixTextOf (format : Format) (problem text : List ℕ) : Type 0 where
   pub p : ProblemIs
   pub is_problem : TextSays problem_texts problem p
   pub is : IsMatrixText format p text
 
--- some text of this many bytes was handed out: its first bytes stand in the buffer
+-- some text of `needed` bytes was written to the buffer, as much of it as fits
 abbrev pub WasHandedOut : List ℕ → List ℕ → ℕ → Type 0
 WasHandedOut old new needed = (text : List ℕ) × (needed ≡ length text) × (new ≡ handed_out text old)
 
--- some text was handed out, and the answer tells how many bytes it has
+-- some text was written to the buffer, as much of it as fits, and the answer has its number of bytes
 abbrev pub IsSomeText : List ℕ → List ℕ → Answer → Type 0
 IsSomeText old new answer = WasHandedOut old new answer.needed
 
--- what was written: the status, how many bytes the text has, and its first bytes in the buffer
+-- this text was written to the buffer, as much of it as fits, and the answer has this status and its number of bytes
 pub record IsWritten (status : ℕ) (text old new : List ℕ) (answer : Answer) : Type 0 where
   pub answer_is : answer ≡ with_status status (length text)
   pub bytes : new ≡ handed_out text old
 
--- the same of two texts and two buffers
+-- like IsWritten, for two texts and two buffers
 pub record AreWritten (status : ℕ) (text old new text' old' new' : List ℕ) (answer : Answer) : Type 0 where
   pub answer_is : answer ≡ with_status_twice status (length text) (length text')
   pub first : new ≡ handed_out text old
@@ -93,6 +93,6 @@ IsRouteCheckWritten problem solution old new answer =
     (v : RouteVerdict) × (line : List ℕ) × IsRouteCheckOf problem solution v line
     × IsWritten (route_status v) line old new answer
 
--- a text that has the property was written
+-- a text that satisfies Is was written
 abbrev pub IsTextWritten : (List ℕ → Type 0) → List ℕ → List ℕ → Answer → Type 0
 IsTextWritten Is old new answer = (text : List ℕ) × Is text × IsWritten 0 text old new answer

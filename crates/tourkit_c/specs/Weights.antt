@@ -1,4 +1,4 @@
--- Cities by their explicit weights in an array.
+-- Cities with explicit weights in an array.
 use Rattle.std.specs.Prelude.{◌≡◌, ◌≤◌, ℕ, ◌-◌, ◌*◌, ◌/◌, All, List, length}
 use Rattle.tk_problem.specs.declared.limits.TheConstants.{DISTANCE_LIMIT, TABLE_LIMIT}
 

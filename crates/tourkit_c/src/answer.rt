@@ -1,4 +1,4 @@
-//! What an export tells beside what it writes.
+//! The result of a call, apart from what it writes.
 ghost use Rattle.std.specs.Prelude.{◌≡◌, ◌≤◌};
 ghost use Rattle.tourkit_c.specs.Outcomes.{IsFailure, clash_answer, clashing, fault_answer, found, of_length};
 ghost use Rattle.tourkit_c.specs.Outcomes.{param_answer, param_number, refused, text_answer, text_number};
@@ -12,37 +12,37 @@ use tk_engines::{Fault, ParamFault, ParamKind};
 use tk_text::{TextFault, TextKind};
 use tk_tour::TourFault;
 
-/// A text or an argument was refused.
+/// Status: a text, a number or an array was rejected, or the problem does not fit the task.
 pub(crate) const REFUSED: u32 = 2;
-/// There was no memory, so nothing is told.
+/// Status: memory ran out. All other fields are 0, except perhaps `needed`, the size of a message.
 pub(crate) const NO_MEMORY: u32 = 3;
-/// A buffer has another size than what is to be written; nothing was written.
+/// Status: the size of an array is not `needed`; nothing was written.
 pub(crate) const NO_ROOM: u32 = 4;
 
-/// What came of a call.
+/// The result of a call, apart from the text or array that it writes.
 #[derive(Drop)]
 #[repr(C)]
 pub struct Answer {
-    /// 0: done; 1: what was claimed has a fault; 2: a text or an argument was refused; 3: no memory; 4: a buffer of
-    /// another size.
+    /// 0: done; 1: the tour or the solution has a fault; 2: a text, a number or an array was rejected, or the problem
+    /// does not fit the task; 3: out of memory; 4: the size of an array is not `needed`.
     pub status: u32,
-    /// Which text was refused, from 1 in the order of the parameters; 0 for none.
+    /// The number of the rejected text, from 1 in the order of the parameters; 0 for none.
     pub text: u32,
     /// The line of the fault, from 1; 0 for none.
     pub line: u64,
     /// The number of the fault; 0 for none.
     pub kind: u32,
-    /// The place in a tour at which the fault stands, from 1; 0 for none.
+    /// The position of the fault in a tour, from 1; 0 for none.
     pub place: u32,
-    /// The length of a tour, where that is asked for.
+    /// The length of a tour, from `tourkit_check_cities` and the other checks of arrays; otherwise 0.
     pub length: u64,
-    /// How many bytes or numbers there are to write.
+    /// The number of bytes or numbers to write.
     pub needed: usize,
-    /// The same of a second buffer.
+    /// Like `needed`, for the second buffer of `tourkit_solve` and `tourkit_plot`.
     pub needed_file: usize,
 }
 
-/// The number of a kind of fault of a text.
+/// The number of a kind of text fault.
 fn number(kind: &TextKind) -> u32
     ensures { result ≡ text_number kind.now }
 {
@@ -65,7 +65,7 @@ fn number(kind: &TextKind) -> u32
     }
 }
 
-/// The number of a kind of fault of parameters.
+/// The number of a kind of parameter fault.
 fn number_of_params(kind: &ParamKind) -> u32
     ensures { result ≡ param_number kind.now }
 {
@@ -82,7 +82,7 @@ fn number_of_params(kind: &ParamKind) -> u32
 }
 
 impl Answer {
-    /// A call that ended with a status alone.
+    /// A result with this status and `needed`, and 0 in all other fields.
     pub(crate) fn ended(status: u32, needed: usize) -> Answer
         ensures { result ≡ with_status status needed }
     {
@@ -98,7 +98,7 @@ impl Answer {
         }
     }
 
-    /// A call that ended with a status and two texts.
+    /// A result with this status and the sizes of two texts, and 0 in all other fields.
     pub(crate) fn ended_twice(status: u32, needed: usize, needed_file: usize) -> Answer
         ensures { result ≡ with_status_twice status needed needed_file }
     {
@@ -108,7 +108,7 @@ impl Answer {
         }
     }
 
-    /// A tour of this length.
+    /// The result for a tour of this length.
     pub(crate) fn of_length(length: u64) -> Answer
         ensures { result ≡ of_length length }
     {
@@ -118,7 +118,7 @@ impl Answer {
         }
     }
 
-    /// A fault of what was claimed, and its place.
+    /// The result for a list with this fault at this position, which is 0 for a wrong count.
     pub(crate) fn found(kind: u32, place: u32) -> Answer
         ensures { result ≡ found kind place }
     {
@@ -129,7 +129,8 @@ impl Answer {
         }
     }
 
-    /// A text with a fault, and how many bytes its message has.
+    /// The result for a rejected text, with a message of `needed` bytes. `text` is 0 if the problem does not fit the
+    /// task.
     pub(crate) fn refused(text: u32, line: u64, kind: u32, needed: usize) -> Answer
         ensures { result ≡ refused text line kind needed }
     {
@@ -141,7 +142,7 @@ impl Answer {
         }
     }
 
-    /// The fault of a text, whose message has so many bytes.
+    /// The result for the fault of a text, with a message of `needed` bytes.
     pub(crate) fn of_text(text: u32, fault: &TextFault, needed: usize) -> Answer
         ensures is { result ≡ text_answer text fault.now needed }
         ensures failure { IsFailure needed result }
@@ -152,7 +153,7 @@ impl Answer {
         }
     }
 
-    /// The fault of parameters, whose message has so many bytes.
+    /// The result for the fault of the parameters, with a message of `needed` bytes.
     fn of_params(fault: &ParamFault, needed: usize) -> Answer
         ensures is { result ≡ param_answer fault.now needed }
         ensures failure { IsFailure needed result }
@@ -163,8 +164,8 @@ impl Answer {
         }
     }
 
-    /// The fault that ended an engine, whose message has so many bytes. The problem is the text of this number, and the
-    /// other text is the next.
+    /// The result for the fault that stopped an engine, with a message of `needed` bytes. `problem` is the number of
+    /// the problem text; the other text has the next number.
     fn of(problem: u32, fault: &Fault, needed: usize) -> Answer
         requires { problem ≤ 2 }
         ensures is { result ≡ fault_answer problem fault.now needed }
@@ -186,7 +187,7 @@ impl Answer {
         }
     }
 
-    /// The fault of a tour to begin with, which is the third text.
+    /// The result for the fault of an initial tour, which is the third text.
     fn of_tour(fault: &TourFault, needed: usize) -> Answer
         ensures is { result ≡ clash_answer fault.now needed }
         ensures failure { IsFailure needed result }
@@ -199,7 +200,7 @@ impl Answer {
         }
     }
 
-    /// A tour to begin with that has a fault at a place.
+    /// The result for an initial tour with this fault at this position, which is 0 for a wrong count.
     fn clashing(kind: u32, place: u32, needed: usize) -> Answer
         ensures { result ≡ clashing kind place needed }
     {
@@ -210,7 +211,8 @@ impl Answer {
     }
 }
 
-/// Hands out the message of a fault as far as there is room and memory for it, and says how many bytes it has.
+/// Writes as much of the message of a fault to a buffer as fits, and returns the number of bytes of the whole message,
+/// which is empty if memory runs out.
 fn hand_out_message<F: fmt::Display>(alloc: Global, fault: &F, out: &mut [u8]) -> usize
     ensures { WasHandedOut out.old out.new result }
 {
@@ -220,8 +222,8 @@ fn hand_out_message<F: fmt::Display>(alloc: Global, fault: &F, out: &mut [u8]) -
     }
 }
 
-/// What an engine's fault tells: the answer, and the message in `out` as far as there is room and memory for it. The
-/// problem is the text of that number, and the other text is the one after it.
+/// The result for the fault that stopped an engine. `out` gets as much of the message as fits; the message is empty if
+/// memory runs out. `problem` is the number of the problem text; the other text has the next number.
 pub(crate) fn stopped(alloc: Global, problem: u32, fault: &Fault, out: &mut [u8]) -> Answer
     requires { problem ≤ 2 }
     ensures is { result ≡ fault_answer problem fault.now result.needed }
@@ -231,7 +233,8 @@ pub(crate) fn stopped(alloc: Global, problem: u32, fault: &Fault, out: &mut [u8]
     Answer::of(problem, fault, hand_out_message(alloc, fault, out))
 }
 
-/// What a fault of parameters tells: the answer, and the message in `out` as far as there is room and memory for it.
+/// The result for the fault of the parameters. `out` gets as much of the message as fits; the message is empty if
+/// memory runs out.
 pub(crate) fn params_stopped(alloc: Global, fault: &ParamFault, out: &mut [u8]) -> Answer
     ensures is { result ≡ param_answer fault.now result.needed }
     ensures failure { IsFailure result.needed result }

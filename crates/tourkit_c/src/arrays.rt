@@ -1,4 +1,5 @@
-//! Arrays of numbers in place of texts: the distances and the near lists of a problem, and the check of a list.
+//! Arrays of numbers instead of texts: the distances and the near lists of a problem, and the check of a list as a
+//! tour.
 ghost use Rattle.std.specs.Prelude.{◌≡◌, ◌≢◌, ◌≤◌, ◌*◌, ◌-◌, min, length, IfOk, IfErr};
 ghost use Rattle.tk_near.specs.ListLengths.{IsListLength};
 ghost use Rattle.tk_text.specs.Problem.{problem_texts};
@@ -18,7 +19,7 @@ use tk_metric::Table;
 use tk_near::ListLength;
 use tk_text::{FromRead, Problem, read_problem};
 
-/// The problem of a text, or what is told where it was refused.
+/// The problem of a text, or the result of the call if the text is rejected or memory runs out.
 fn problem_of(alloc: Global, text: &[u8]) -> Result<Problem, Answer>
     ensures ok { IfOk result (λ p. TextSays problem_texts text.now (problem_is p)) }
     ensures failure { IfErr result (IsFailure 0) }
@@ -30,7 +31,7 @@ fn problem_of(alloc: Global, text: &[u8]) -> Result<Problem, Answer>
     }
 }
 
-/// The distances of a problem, by what its text says.
+/// The distances of a problem.
 fn table_of(problem: &Problem) -> Table<'_>
     ensures size { table_size result ≡ problem.now.n }
     ensures distances { table_distance result ≡ read_distance (weights_are problem.now.weights) }
@@ -38,7 +39,7 @@ fn table_of(problem: &Problem) -> Table<'_>
     Table::of(problem)
 }
 
-/// Writes the distances of all pairs of a problem's cities.
+/// Writes the distances of all pairs of cities of a problem, if `out` has exactly the right size.
 fn distances_of(problem: &Problem, out: &mut [i64]) -> Answer
     ensures given { result.status ≡ 0
         → AreDistances problem.now.n (read_distance (weights_are problem.now.weights)) out.new }
@@ -55,7 +56,7 @@ fn distances_of(problem: &Problem, out: &mut [i64]) -> Answer
     Answer::ended(0, needed)
 }
 
-/// Writes the near lists of a problem's cities.
+/// Writes the near lists of a problem, if `out` has exactly the right size.
 fn near_of(alloc: Global, problem: &Problem, candidates: ListLength, out: &mut [u32]) -> Answer
     ensures given { result.status ≡ 0
         → AreNearIn problem.now.n (read_distance (weights_are problem.now.weights)) candidates.cities out.new }
@@ -68,7 +69,7 @@ fn near_of(alloc: Global, problem: &Problem, candidates: ListLength, out: &mut [
     near_in(alloc, &table_of(problem), candidates, out)
 }
 
-/// What is told of a list as a tour of a problem's cities.
+/// The result of checking a list as a tour of a problem's cities.
 fn verdict_of(alloc: Global, problem: &Problem, cities: &[u32]) -> Answer
     ensures given { result.status ≤ 1
         → HasVerdict problem.now.n (read_distance (weights_are problem.now.weights)) cities.now result }
@@ -80,7 +81,8 @@ fn verdict_of(alloc: Global, problem: &Problem, cities: &[u32]) -> Answer
     verdict_in(alloc, &table_of(problem), cities)
 }
 
-/// Writes the distances of all pairs of cities, row by row, if `out` has room for just n² of them: `needed` tells n².
+/// Writes the distances of all pairs of n cities, row by row, if `out` has exactly n² entries; otherwise the status is
+/// 4. In both cases, `needed` is n². Cities count from 1: the distance of a and b is at index (a - 1) n + (b - 1).
 #[unsafe(no_mangle)]
 pub extern "C" fn tourkit_distances(
     alloc: Global,
@@ -100,8 +102,9 @@ pub extern "C" fn tourkit_distances(
     };
 }
 
-/// Writes the near list of each city, one after another: the k nearest others, 1 to 100, or all of them where there are
-/// fewer, if `out` has room for just as many: `needed` tells how many.
+/// Writes the near lists of n cities one after another, min(k, n - 1) cities each, if `out` has exactly as many
+/// entries; otherwise the status is 4. In both cases, `needed` is their number. k is 1 to 100; for any other k, the
+/// status is 2.
 #[unsafe(no_mangle)]
 pub extern "C" fn tourkit_near_cities(
     alloc: Global,
@@ -127,8 +130,8 @@ pub extern "C" fn tourkit_near_cities(
     };
 }
 
-/// Checks an array as a tour of the cities of a text: `length` tells its length; or with status 1, `kind` the fault (20
-/// a wrong count, 21 out of range, 22 a repeated city), and `place` where it stands.
+/// Checks an array as a tour of the cities of a problem. The status is 0 with the length of the tour in `length`, or 1
+/// with the first fault in `kind` (20 wrong count, 21 out of range, 22 repeated city) and its position in `place`.
 #[unsafe(no_mangle)]
 pub extern "C" fn tourkit_check_cities(
     alloc: Global,

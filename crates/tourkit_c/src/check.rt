@@ -1,4 +1,4 @@
-//! The checks of tours and of routes, over texts in memory.
+//! Checks the tours and routes of texts in memory.
 ghost use Rattle.std.specs.Prelude.{◌≡◌, ◌≤◌, IfOk, IfErr};
 ghost use Rattle.tk_text.specs.Solution.{solution_texts};
 ghost use Rattle.tk_text.specs.Tour.{tour_texts};
@@ -17,7 +17,7 @@ use tk_routes::RouteVerdict;
 use tk_text::{FromRead, ToWrite};
 use tk_tour::Verdict;
 
-/// The verdict on a tour, and the line on it.
+/// The verdict on a tour, and the line that reports it.
 fn checked(alloc: Global, problem: &[u8], tour: &[u8]) -> Result<(Verdict, Vec<u8>), Fault>
     ensures ok { IfOk result (λ r. IsCheckOf problem.now tour.now r.0 r.1.items) }
     ensures err { IfErr result (IsStop fits_any NeverClashes (λ _. HasFault tour_texts tour.now) NoFault problem.now) }
@@ -31,7 +31,7 @@ fn checked(alloc: Global, problem: &[u8], tour: &[u8]) -> Result<(Verdict, Vec<u
     }
 }
 
-/// The verdict on routes, and the line on it.
+/// The verdict on routes, and the line that reports it.
 fn routes_checked(
     alloc: Global,
     problem: &[u8],
@@ -50,7 +50,7 @@ fn routes_checked(
     }
 }
 
-/// 0 for a tour, 1 for a fault.
+/// The status: 0 for a tour, 1 for a fault.
 fn status_of(verdict: Verdict) -> u32
     ensures { result ≡ tour_status verdict }
 {
@@ -60,7 +60,7 @@ fn status_of(verdict: Verdict) -> u32
     }
 }
 
-/// 0 for routes without a fault, 1 for a fault.
+/// The status: 0 for valid routes, 1 for a fault.
 fn status_of_routes(verdict: RouteVerdict) -> u32
     ensures { result ≡ route_status verdict }
 {
@@ -70,8 +70,8 @@ fn status_of_routes(verdict: RouteVerdict) -> u32
     }
 }
 
-/// Checks the tour of one text against the problem of another. The status is 0 for a tour and 1 for a fault, and `out`
-/// gets the line on it; 2 where a text was refused, and `out` gets the message.
+/// Checks the tour of a text against a problem. `out` gets the verdict as a line; the status is 0 for a tour and 1 for
+/// a fault. If a text is rejected, the status is 2, and `out` gets the message.
 #[unsafe(no_mangle)]
 pub extern "C" fn tourkit_check(
     alloc: Global,
@@ -92,8 +92,8 @@ pub extern "C" fn tourkit_check(
     };
 }
 
-/// Checks the routes of one text against the problem of another. The status is 0 where they have no fault and 1 where
-/// they have one, and `out` gets the line on it; 2 where a text was refused, and `out` gets the message.
+/// Checks the routes of a text against a CVRP. `out` gets the verdict as a line; the status is 0 for valid routes and 1
+/// for a fault. If a text is rejected, or the problem is not a CVRP, the status is 2, and `out` gets the message.
 #[unsafe(no_mangle)]
 pub extern "C" fn tourkit_checksol(
     alloc: Global,

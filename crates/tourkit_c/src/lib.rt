@@ -1,7 +1,8 @@
-//! tourkit for C: texts and arrays in memory go in, and what the program prints, or arrays of numbers, comes out.
+//! tourkit for C: functions on texts and arrays in memory. They write the text that the program prints, or arrays of
+//! numbers.
 //!
-//! An export requires nothing of its caller beyond the types of its parameters: what the engines require is tested
-//! here. It keeps nothing from one call to the next.
+//! An exported function requires nothing of its caller beyond the types of its parameters: it checks what the engines
+//! require. It keeps nothing from one call to the next.
 #![tactic(auto)]
 
 mod answer;

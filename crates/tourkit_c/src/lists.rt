@@ -40,8 +40,8 @@ fn matrix_text(alloc: Global, problem: &[u8]) -> Result<Vec<u8>, Fault>
     }
 }
 
-/// Writes the near list of each city: the k nearest others, 1 to 100, or all of them where there are fewer. Where the
-/// text was refused, `out` gets the message.
+/// Writes the near list of each city on a line: its k nearest neighbours, or all other cities if there are fewer. k is
+/// 1 to 100; for any other k, the status is 2 without a message. If the text is rejected, `out` gets the message.
 #[unsafe(no_mangle)]
 pub extern "C" fn tourkit_near(
     alloc: Global,
@@ -68,7 +68,8 @@ pub extern "C" fn tourkit_near(
     };
 }
 
-/// Writes the matrix of a problem of at most 5,000 nodes, in full. Where the text was refused, `out` gets the message.
+/// Writes a problem of at most 5,000 nodes as one with explicit weights, in a full matrix. If the text is rejected, or
+/// the problem has more nodes, `out` gets the message.
 #[unsafe(no_mangle)]
 pub extern "C" fn tourkit_matrix(alloc: Global, problem: &[u8], out: &mut [u8], answer: &mut Answer)
     ensures given { answer.new.status ≤ 1

@@ -1,4 +1,4 @@
-//! Pictures, over texts in memory.
+//! Draws the problems of texts in memory.
 ghost use Rattle.std.specs.Prelude.{◌≡◌, ◌≤◌, IfOk, IfErr};
 ghost use Rattle.tk_engines.specs.Plot.{Output};
 ghost use Rattle.tk_engines.specs.declared.engines.plotted.Plotted.{Plotted};
@@ -17,7 +17,8 @@ use tk_routes::RouteVerdict;
 use tk_text::{FromRead, ToWrite};
 use tk_tour::Verdict;
 
-/// What was plotted: the picture, or the line on the fault of what was claimed.
+/// What was drawn, the picture, and the line that reports the fault of the tour or of the routes. One of the two texts
+/// is empty.
 fn plotted(
     alloc: Global,
     problem: &[u8],
@@ -47,7 +48,7 @@ fn plotted(
     }
 }
 
-/// 1 where what was claimed has a fault, else 0.
+/// The status: 1 if the tour or the routes have a fault, otherwise 0.
 fn status_of(plotted: Plotted) -> u32
     ensures { result ≡ plot_status plotted }
 {
@@ -60,7 +61,9 @@ fn status_of(plotted: Plotted) -> u32
 }
 
 /// Draws a problem, and if `has_claim` is true, the tour or the routes of another text: `out` gets the picture (SVG),
-/// or `told` the line on their fault. Where a text was refused, `told` gets the message.
+/// of `needed` bytes. If the tour or the routes have a fault, the status is 1, and `told` gets the line that reports
+/// it, of `needed_file` bytes. If a text is rejected, or the problem has no coordinates, `told` gets the message, of
+/// `needed` bytes.
 #[unsafe(no_mangle)]
 pub extern "C" fn tourkit_plot(
     alloc: Global,

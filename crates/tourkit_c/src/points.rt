@@ -1,4 +1,4 @@
-//! Cities by their coordinates in two arrays, in units of 10^-9.
+//! Cities with their coordinates in two arrays, in units of 10^-9.
 ghost use Rattle.std.specs.Prelude.{◌≡◌, ◌≢◌, ◌≤◌, ◌<◌, ◌*◌, ◌-◌, min, length, IfOk, IfSome, IfNone};
 ghost use Rattle.tk_problem.specs.declared.limits.TheConstants.{CITY_LIMIT};
 ghost use Rattle.tk_near.specs.ListLengths.{IsListLength};
@@ -16,7 +16,7 @@ use tk_metric::{Planes, Table};
 use tk_near::ListLength;
 use tk_text::{CITY_LIMIT, COORDINATE_LIMIT, PlaneKind, Point, Points, SCALE};
 
-/// The distance type of a number.
+/// The distance type with this number, which is 0 to 4; otherwise `None`.
 fn kind_of(kind: u32) -> Option<PlaneKind>
     ensures some { IfSome result (λ type. kind_number type ≡ kind) }
     ensures limit { IfSome result (λ _. kind ≤ 4) }
@@ -32,10 +32,10 @@ fn kind_of(kind: u32) -> Option<PlaneKind>
     }
 }
 
-/// The greatest magnitude of a coordinate, in units.
+/// Maximum magnitude of a coordinate, in units of 10^-9.
 const FAR: u64 = COORDINATE_LIMIT * SCALE as u64;
 
-/// The place with the coordinates at an index; `None` where it is too far away.
+/// The point with the coordinates at an index; `None` if one of them is beyond the limit.
 fn place_in(xs: &[i64], ys: &[i64], i: usize) -> Option<Point>
     requires inside { i < length xs.now }
     requires count { length ys.now ≡ length xs.now }
@@ -50,7 +50,8 @@ fn place_in(xs: &[i64], ys: &[i64], i: usize) -> Option<Point>
     Some(Point { x, y })
 }
 
-/// The places with these coordinates; `None` where they are not 2 to 100,000, or one is too far away.
+/// The points with these coordinates; `None` unless there are 2 to 100,000 points, with as many `ys` as `xs`, and all
+/// coordinates are within the limit.
 fn places_of(alloc: Global, xs: &[i64], ys: &[i64]) -> Result<Option<Points>, AllocError>
     ensures places { IfOk result (λ found. IfSome found (ArePlaces xs.now ys.now)) }
     ensures low { IfOk result (λ found. IfSome found (λ places. 2 ≤ length places)) }
@@ -71,7 +72,7 @@ fn places_of(alloc: Global, xs: &[i64], ys: &[i64]) -> Result<Option<Points>, Al
     Ok(Some(points))
 }
 
-/// The distances of a type among these places.
+/// The distances between these points, by a distance type.
 fn table_of(kind: PlaneKind, places: &Points) -> Table<'_>
     requires { length places.now ≤ CITY_LIMIT }
     ensures size { table_size result ≡ length places.now }
@@ -80,8 +81,9 @@ fn table_of(kind: PlaneKind, places: &Points) -> Table<'_>
     Table::Planes(Planes::new(kind, places))
 }
 
-/// Writes the near list of each city, as `tourkit_near_cities` does, of cities by their coordinates in units of 10^-9.
-/// `kind` is 0 for EUC_2D, 1 CEIL_2D, 2 MAN_2D, 3 MAX_2D, 4 ATT.
+/// Like `tourkit_near_cities`, but for 2 to 100,000 cities with coordinates in units of 10^-9, of magnitude at most
+/// 10^18. `kind` is 0 for EUC_2D, 1 for CEIL_2D, 2 for MAN_2D, 3 for MAX_2D and 4 for ATT. For anything else, the
+/// status is 2.
 #[unsafe(no_mangle)]
 pub extern "C" fn tourkit_near_points(
     alloc: Global,
@@ -117,7 +119,7 @@ pub extern "C" fn tourkit_near_points(
     };
 }
 
-/// Checks an array as a tour, as `tourkit_check_cities` does, of cities by their coordinates in units of 10^-9.
+/// Like `tourkit_check_cities`, but for cities as in `tourkit_near_points`.
 #[unsafe(no_mangle)]
 pub extern "C" fn tourkit_check_points(
     alloc: Global,

@@ -1,4 +1,4 @@
-//! The search for a tour or for routes, over texts in memory.
+//! Searches for tours and routes, for texts in memory.
 ghost use Rattle.std.specs.Prelude.{◌≡◌, ◌≢◌, ◌≤◌, IfOk, IfErr, Ok, is_some};
 ghost use Rattle.tk_engines.specs.Params.{params_answer};
 ghost use Rattle.tourkit_c.specs.Answers.{IsStop, NoFault};
@@ -21,7 +21,7 @@ fn params_of(alloc: Global, text: &[u8]) -> Result<Params, ParamFault>
     read_params(alloc, &mut FromRead::new(text))
 }
 
-/// The text of the tour or of the routes, and the lines on it.
+/// The text of the tour or of the solution, and the lines that the program prints.
 fn solved(
     alloc: Global,
     params: &Params,
@@ -53,7 +53,7 @@ fn solved(
     }
 }
 
-/// Searches as these parameters ask for, and writes what came of it.
+/// Searches as the parameters specify, and writes the two texts, or the message to `out`.
 fn search(
     alloc: Global,
     params: &Params,
@@ -79,9 +79,10 @@ fn search(
     }
 }
 
-/// Searches as parameters ask for. `out` gets what the program prints, and `file` the text of the tour or of the
-/// routes. `initial` is read where the parameters name an INITIAL_TOUR_FILE. The names of files are not looked at
-/// otherwise. Where a text was refused, `out` gets the message.
+/// Searches for a short tour or for short routes, as the parameters specify. `file` gets the text of the tour or of the
+/// solution, and `out` the lines that the program prints. `initial` is read if the parameters contain the key
+/// INITIAL_TOUR_FILE; apart from that, file names are ignored. If a text is rejected, or a key does not apply to the
+/// problem, `out` gets the message.
 #[unsafe(no_mangle)]
 pub extern "C" fn tourkit_solve(
     alloc: Global,

@@ -1,4 +1,4 @@
-//! Arrays of numbers over a table of distances, whatever it comes from: distances, near lists, the verdict on a list.
+//! Arrays of numbers for any table of distances: its distances, its near lists, and the verdict on a list.
 ghost use Rattle.std.specs.Prelude.{◌≡◌, ◌≢◌, ◌≤◌, ◌*◌, ◌-◌, min, length};
 ghost use Rattle.tk_metric.specs.Tables.{table_distance, table_size};
 ghost use Rattle.tourkit_c.specs.Arrays.{AreDistances, AreNearIn, HasVerdict, IsArrayStatus};
@@ -10,7 +10,7 @@ use tk_metric::{Metric, Table, near_lists};
 use tk_near::ListLength;
 use tk_tour::{Verdict, check, length};
 
-/// Writes the distances of all pairs, row by row.
+/// Writes the distances of all pairs of cities of a metric, row by row.
 fn fill_rows<M: Metric>(metric: &M, out: &mut [i64])
     requires some { 1 ≤ M.size_of metric.now }
     requires size { length out.old ≡ M.size_of metric.now * M.size_of metric.now }
@@ -22,7 +22,7 @@ fn fill_rows<M: Metric>(metric: &M, out: &mut [i64])
     }
 }
 
-/// Writes the distances of all pairs of a table's cities, row by row.
+/// Writes the distances of all pairs of cities of a table, row by row.
 pub(crate) fn fill_distances(table: &Table<'_>, out: &mut [i64])
     requires some { 1 ≤ table_size table.now }
     requires size { length out.old ≡ table_size table.now * table_size table.now }
@@ -34,8 +34,8 @@ pub(crate) fn fill_distances(table: &Table<'_>, out: &mut [i64])
     }
 }
 
-/// Writes the near lists of a table's cities, k for each, or all others where there are fewer, if `out` has room for
-/// just as many.
+/// Writes the near lists of a table one after another, each with `candidates` cities, or all other cities if there are
+/// fewer. If `out` has another size, nothing is written, and the status is 4.
 pub(crate) fn near_in(
     alloc: Global,
     table: &Table<'_>,
@@ -66,7 +66,7 @@ pub(crate) fn near_in(
     }
 }
 
-/// What is told of a list as a tour of a metric's cities.
+/// The result of checking a list as a tour of a metric's cities.
 fn verdict_by<M: Metric>(alloc: Global, metric: &M, cities: &[u32]) -> Answer
     ensures given { result.status ≤ 1 → HasVerdict (M.size_of metric.now) (M.distance metric.now) cities.now result }
     ensures known { result.status ≤ 3 }
@@ -83,7 +83,7 @@ fn verdict_by<M: Metric>(alloc: Global, metric: &M, cities: &[u32]) -> Answer
     }
 }
 
-/// What is told of a list as a tour of a table's cities.
+/// The result of checking a list as a tour of a table's cities.
 pub(crate) fn verdict_in(alloc: Global, table: &Table<'_>, cities: &[u32]) -> Answer
     ensures given { result.status ≤ 1
         → HasVerdict (table_size table.now) (table_distance table.now) cities.now result }

@@ -1,4 +1,4 @@
-//! Cities by their explicit weights in an array: the lower triangle row by row without its diagonal.
+//! Cities with explicit weights in an array: the lower triangle row by row without its diagonal.
 ghost use Rattle.std.specs.Prelude.{◌≡◌, ◌≢◌, ◌≤◌, ◌*◌, ◌-◌, true, false, All, length, min, IfSome, IfNone};
 ghost use Rattle.tk_problem.specs.declared.limits.TheConstants.{DISTANCE_LIMIT};
 ghost use Rattle.tk_near.specs.ListLengths.{IsListLength};
@@ -15,7 +15,7 @@ use tk_metric::{Table, Triangle};
 use tk_near::ListLength;
 use tk_text::{DISTANCE_LIMIT, TABLE_LIMIT};
 
-/// Whether no weight is too great.
+/// Whether no weight is greater than 4,000,000,000.
 fn are_small(weights: &[u32]) -> bool
     ensures yes { result ≡ true → All (λ w. w ≤ DISTANCE_LIMIT) weights.now }
     ensures no { result ≡ false → All (λ w. w ≤ DISTANCE_LIMIT) weights.now → ⊥ }
@@ -28,7 +28,8 @@ fn are_small(weights: &[u32]) -> bool
     true
 }
 
-/// The distances of n cities with these weights; `None` where they are not 2 to 5,000, or the weights do not fit them.
+/// The distances of n cities with these weights; `None` unless n is 2 to 5,000, and the weights are n (n - 1) / 2
+/// numbers within the limit.
 fn table_of(n: u32, weights: &[u32]) -> Option<Table<'_>>
     ensures size { IfSome result (λ table. table_size table ≡ n) }
     ensures some { IfSome result (λ table. 2 ≤ table_size table) }
@@ -46,8 +47,8 @@ fn table_of(n: u32, weights: &[u32]) -> Option<Table<'_>>
     Some(Table::Triangle(Triangle { n, weights }))
 }
 
-/// Writes the near list of each city, as `tourkit_near_cities` does, of n cities by their explicit weights: the lower
-/// triangle row by row without its diagonal.
+/// Like `tourkit_near_cities`, but for n cities, 2 to 5,000, with explicit weights of at most 4,000,000,000: the lower
+/// triangle row by row without its diagonal, n (n - 1) / 2 numbers. For anything else, the status is 2.
 #[unsafe(no_mangle)]
 pub extern "C" fn tourkit_near_weights(
     alloc: Global,
@@ -76,8 +77,7 @@ pub extern "C" fn tourkit_near_weights(
     };
 }
 
-/// Checks an array as a tour, as `tourkit_check_cities` does, of n cities by their explicit weights: the lower triangle
-/// row by row without its diagonal.
+/// Like `tourkit_check_cities`, but for cities as in `tourkit_near_weights`.
 #[unsafe(no_mangle)]
 pub extern "C" fn tourkit_check_weights(
     alloc: Global,
