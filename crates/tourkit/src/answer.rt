@@ -1,4 +1,4 @@
-//! Where a command prints its answer.
+//! The output of a command.
 
 use crate::json::object_of;
 use crate::report;
@@ -6,17 +6,17 @@ use std::io::{self, Stdout, Write};
 use std::process::ExitCode;
 use tk_engines::Fault;
 
-/// Why an answer was not printed.
+/// Why output was not printed.
 #[derive(Clone, Copy, PartialEq, Eq)]
 pub enum Unprinted {
-    /// Standard output took no more.
+    /// A write to standard output failed.
     Unwritten,
     /// Memory ran out.
     NoMemory,
 }
 
 impl Unprinted {
-    /// Reports it.
+    /// Reports the reason, and returns the exit status.
     pub fn report(self, rt: &HostRuntime) -> ExitCode {
         match self {
             Unprinted::Unwritten => report::write_fault(rt),
@@ -25,17 +25,17 @@ impl Unprinted {
     }
 }
 
-/// Where the lines of an answer go.
+/// Where the lines of a command go.
 #[derive(Drop)]
 pub enum Answer {
     /// To standard output.
     Lines(Stdout),
-    /// Into memory, from where they are printed as JSON.
+    /// Into memory; they are printed as JSON at the end.
     Json(Vec<u8>),
 }
 
 impl Answer {
-    /// An answer of no line yet, as JSON or not.
+    /// An output without lines, which is printed as JSON if `json` is true.
     pub fn new(rt: &HostRuntime, json: bool) -> Answer {
         if json {
             return Answer::Json(Vec::new(rt.alloc()));
@@ -43,7 +43,7 @@ impl Answer {
         Answer::Lines(rt.stdout())
     }
 
-    /// Prints what is in memory as JSON.
+    /// Prints the lines in memory as a JSON object. Lines that go to standard output are already printed.
     ///
     /// # Errors
     /// Why it was not printed.
@@ -60,7 +60,7 @@ impl Answer {
         }
     }
 
-    /// Prints what is in memory as JSON, and ends with this status.
+    /// Prints the lines in memory as a JSON object. Returns this exit status, or that of a failure, after a message.
     pub fn end(&self, rt: &HostRuntime, status: ExitCode) -> ExitCode {
         match self.try_print(rt) {
             Ok(()) => status,
@@ -68,7 +68,7 @@ impl Answer {
         }
     }
 
-    /// Tells why a check was stopped of what one file claims of the problem of another.
+    /// Reports why the check of a tour or a solution of a problem stopped, and returns the exit status.
     pub fn stopped(
         &self,
         rt: &HostRuntime,
@@ -82,7 +82,7 @@ impl Answer {
         }
     }
 
-    /// Why a line could not be written: in memory, only because there is no more of it.
+    /// Why a line could not be written. A write to memory fails only if memory runs out.
     pub fn unwritten(&self) -> Unprinted {
         match self {
             Answer::Lines(_) => Unprinted::Unwritten,

@@ -1,4 +1,4 @@
-//! The place next to the file that a search writes, where its best result so far is kept.
+//! The file next to the output file of a search that keeps its best result so far.
 use crate::file_id::{Stamp, id_of};
 use crate::judged::{Judged, judge};
 use crate::part::replace;
@@ -10,26 +10,27 @@ use std::fs::{self, File};
 use std::io::ErrorKind;
 use tk_words::FromRead;
 
-/// The place, which may have the file of another search.
+/// The place of this file. The file of another search may be there.
 #[derive(Drop)]
 pub struct BestPlace<'a> {
     rt: &'a HostRuntime,
     name: String,
-    /// The file that the search writes at its end, whose owner and rights count here too.
+    /// The output file of the search, whose owner and permissions the file here gets.
     output: &'a str,
-    /// The file of the problem, if it can be read again.
+    /// The problem file, if it can be read again.
     problem: Option<&'a str>,
-    /// Whether the file stays at the end of the search, since the search began from it.
+    /// Whether the file stays at the end of the search, because the search starts from it.
     stays: bool,
-    /// The file that this search has put here.
+    /// The file that this search has written here.
     own: Option<Stamp>,
-    /// The file of another search that was found here last, and what it has.
+    /// The last file of another search that was found here, and its contents.
     other: Option<(Stamp, Judged)>,
 }
 
 impl<'a> BestPlace<'a> {
-    /// The place of a search, if it writes a plain file and the place is not that of a file which it only reads. A note
-    /// reports a file that is there already. It may be that of the initial tour: what takes its place is shorter.
+    /// The place of a search; `None` if it has no output file, if that file or the one at the place is not a regular
+    /// file, or if the one at the place is the problem file or the parameter file. It may be the initial tour file,
+    /// which only a shorter tour replaces. A file that is already there is reported in a note.
     ///
     /// # Errors
     /// `AllocError` if memory runs out.
@@ -59,12 +60,13 @@ impl<'a> BestPlace<'a> {
         Ok(Some(place))
     }
 
-    /// Its name.
+    /// The name of the file.
     pub fn name(&self) -> &str {
         &self.name
     }
 
-    /// Reports a file of another search, unless this search begins with it.
+    /// Reports the file that is already here. A tour from which this search starts is not reported, nor is a file that
+    /// could not be judged although the problem can be read again.
     fn note_other(&mut self, search: &Search<'_, 'a>) {
         let Some(found) = self.found() else {
             return;
@@ -80,7 +82,7 @@ impl<'a> BestPlace<'a> {
         }
     }
 
-    /// The plain file that is here now, if there is one.
+    /// The regular file that is here now, if there is one.
     fn found(&self) -> Option<Stamp> {
         match fs::metadata(self.rt, &self.name) {
             Ok(found) => Stamp::of(&found),
@@ -88,7 +90,7 @@ impl<'a> BestPlace<'a> {
         }
     }
 
-    /// What a file of another search has.
+    /// The contents of a file of another search. The last verdict is remembered.
     fn judged(&mut self, found: Stamp) -> Judged {
         if let Some(judged) = self.known(found) {
             return judged;
@@ -98,7 +100,7 @@ impl<'a> BestPlace<'a> {
         judged
     }
 
-    /// What a file of another search has, if it was found before.
+    /// The contents of a file of another search, if it is the one that was judged last.
     fn known(&self, found: Stamp) -> Option<Judged> {
         match &self.other {
             Some((stamp, judged)) if *stamp == found => Some(*judged),
@@ -106,7 +108,7 @@ impl<'a> BestPlace<'a> {
         }
     }
 
-    /// What the file here has as a solution of the problem.
+    /// Judges the file here as a solution of the problem.
     fn judge_file(&self) -> Judged {
         match (self.problem, File::open(self.rt, &self.name)) {
             (Some(problem), Ok(file)) => judge(self.rt, problem, &mut FromRead::new(file)),
@@ -114,7 +116,7 @@ impl<'a> BestPlace<'a> {
         }
     }
 
-    /// The length or the cost of a result of the search. It is the greatest number if it is unknown.
+    /// The length or the cost of a result of the search, or `i64::MAX` if it is unknown.
     pub fn length_of(&self, text: &[u8]) -> i64 {
         let judged = match self.problem {
             Some(problem) => judge(self.rt, problem, &mut FromRead::new(text)),
@@ -123,8 +125,8 @@ impl<'a> BestPlace<'a> {
         judged.length().unwrap_or(i64::MAX)
     }
 
-    /// Whether a result of this length may be put here: if there is no file, or one of this search, or one that has a
-    /// longer tour of the same problem or routes of a greater cost.
+    /// Whether a result of this length or cost may be written here: there is no file, or one that this search has
+    /// written, or one with a longer tour or more expensive routes of the same problem.
     pub fn takes(&mut self, length: i64) -> bool {
         match fs::metadata(self.rt, &self.name) {
             Ok(found) => self.takes_over(Stamp::of(&found), length),
@@ -132,7 +134,7 @@ impl<'a> BestPlace<'a> {
         }
     }
 
-    /// Whether a result of this length may be put in the place of what was found.
+    /// Whether a result of this length or cost may replace the file that was found. Only a regular file is replaced.
     fn takes_over(&mut self, found: Option<Stamp>, length: i64) -> bool {
         let Some(found) = found else {
             return false;
@@ -146,8 +148,8 @@ impl<'a> BestPlace<'a> {
         }
     }
 
-    /// Puts a file with this text here, with the owner and the rights of the file that the search writes. It returns
-    /// whether that could be done.
+    /// Writes a file with this text here, with the owner and the permissions of the output file if that exists. Returns
+    /// whether it succeeded.
     pub fn put(&mut self, text: &[u8]) -> bool {
         let old = fs::metadata(self.rt, self.output).ok();
         let Ok(new) = replace(self.rt, &self.name, text, old.as_ref()) else {
@@ -157,8 +159,8 @@ impl<'a> BestPlace<'a> {
         true
     }
 
-    /// Removes the file that this search has put here, unless the search began from the one before. A file that another
-    /// search has put here since stays.
+    /// Removes the file that this search has written here, unless the search started from a file here. A file that
+    /// another search has written since then stays.
     pub fn remove(&self) {
         if self.own.is_some() && self.found() == self.own && !self.stays {
             let _ = fs::remove_file(self.rt, &self.name);
@@ -166,7 +168,7 @@ impl<'a> BestPlace<'a> {
     }
 }
 
-/// Whether a name leads to a plain file, or to none yet.
+/// Whether a name leads to a regular file, or to nothing that can be found.
 fn is_plain(rt: &HostRuntime, name: &str) -> bool {
     fs::metadata(rt, name).map_or(true, |found| found.is_file())
 }

@@ -1,4 +1,4 @@
-//! A whole call of the program.
+//! Runs the program, given its arguments.
 
 use crate::commands::check::check_command;
 use crate::commands::checksol::checksol_command;
@@ -13,7 +13,7 @@ use crate::words::words_of_call;
 use std::process::ExitCode;
 use tk_command_line::{Asked, parse};
 
-/// Reads the words of the call, and runs what they ask for.
+/// Parses the arguments of the program, and runs the command that they request.
 pub fn run_call(rt: &HostRuntime) -> ExitCode {
     let words = match words_of_call(rt) {
         Ok(words) => words,

@@ -1,4 +1,4 @@
-//! The subcommands over files, and what is printed without one.
+//! The subcommands, and the option `--completions`.
 pub mod check;
 pub mod checksol;
 pub mod completions;

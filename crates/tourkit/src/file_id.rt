@@ -1,9 +1,9 @@
-//! Which file it is.
+//! The identity of files.
 use std::fs::Metadata;
 use std::io;
 use std::os::unix::fs::MetadataExt;
 
-/// Which plain file it is, whatever name or link leads to it.
+/// The identity of a regular file, whatever name or link leads to it.
 #[derive(Clone, Copy, PartialEq, Eq)]
 pub struct FileId {
     device: u64,
@@ -11,7 +11,7 @@ pub struct FileId {
 }
 
 impl FileId {
-    /// The file that this is known of, if it is a plain one.
+    /// The identity of the file with this metadata; `None` unless it is a regular file.
     pub fn of(found: &Metadata) -> Option<FileId> {
         if !found.is_file() {
             return None;
@@ -23,7 +23,7 @@ impl FileId {
     }
 }
 
-/// The plain file that was found, if it is one.
+/// The identity of the file that was found; `None` unless it is a regular file.
 pub fn id_of(found: io::Result<Metadata>) -> Option<FileId> {
     match found {
         Ok(found) => FileId::of(&found),
@@ -31,8 +31,8 @@ pub fn id_of(found: io::Result<Metadata>) -> Option<FileId> {
     }
 }
 
-/// A plain file with the bytes that it has now. The system may give the number of a file that was removed to a new one,
-/// so length and time count too.
+/// The identity of a regular file, with its length and the time of its last modification. These count too, since a new
+/// file may get the inode number of a removed one.
 #[derive(Clone, Copy, PartialEq, Eq)]
 pub struct Stamp {
     id: FileId,
@@ -42,7 +42,7 @@ pub struct Stamp {
 }
 
 impl Stamp {
-    /// The stamp of the file that this is known of, if it is a plain one.
+    /// The stamp of the file with this metadata; `None` unless it is a regular file.
     pub fn of(found: &Metadata) -> Option<Stamp> {
         let id = FileId::of(found)?;
         Some(Stamp {

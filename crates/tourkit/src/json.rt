@@ -1,17 +1,17 @@
-//! Answers as JSON: what the lines of a command say, as the members of one object.
+//! Output as JSON: the values in the lines of a command, as the members of one object.
 
 use crate::json_lines::{Array, Becomes, Line, Member, take_apart};
 use serde::{Described, Serialize, Serializer};
 use serde_json::to_string;
 use std::alloc::{AllocError, Global};
 
-/// The lines of a command.
+/// The lines of a command, which become one object.
 #[derive(Drop)]
 struct Object<'a> {
     lines: Vec<Line<'a>>,
 }
 
-/// The text of an object with what lines say, and a line feed.
+/// The text of the object for these lines, followed by a line feed.
 ///
 /// # Errors
 /// `AllocError` if memory runs out.
@@ -24,7 +24,7 @@ pub fn object_of(alloc: Global, lines: &[u8]) -> Result<String, AllocError> {
     Ok(text)
 }
 
-/// The lines of a text, taken apart.
+/// Parses the lines of a text.
 fn lines_of<'a>(alloc: Global, text: &'a str) -> Result<Vec<Line<'a>>, AllocError> {
     let mut lines = Vec::new(alloc);
     for line in text.lines() {
@@ -43,7 +43,8 @@ impl Serialize for Object<'_> {
     }
 }
 
-/// Puts what lines say: the ignored keys, the runs, the other members, and what is of no known form.
+/// Writes the members for these lines: the ignored keys, the runs, the other values, and the lines that match no
+/// pattern.
 fn put_lines<S: Serializer>(out: &mut S, lines: &[Line<'_>]) -> Result<(), S::Error> {
     put_array(out, Array::Ignored, lines)?;
     put_array(out, Array::Runs, lines)?;
@@ -53,7 +54,7 @@ fn put_lines<S: Serializer>(out: &mut S, lines: &[Line<'_>]) -> Result<(), S::Er
     put_array(out, Array::Unknown, lines)
 }
 
-/// Puts an array, if lines ask for it.
+/// Writes an array, if a line requires it.
 fn put_array<S: Serializer>(out: &mut S, array: Array, lines: &[Line<'_>]) -> Result<(), S::Error> {
     if !is_asked_for(array, lines) {
         return Ok(());
@@ -64,12 +65,12 @@ fn put_array<S: Serializer>(out: &mut S, array: Array, lines: &[Line<'_>]) -> Re
     out.end_seq()
 }
 
-/// Whether lines ask for an array.
+/// Whether a line requires the array.
 fn is_asked_for(array: Array, lines: &[Line<'_>]) -> bool {
     lines.iter().any(|line| line.asks_for(array))
 }
 
-/// Puts the items of an array.
+/// Writes the items of an array.
 fn put_items<S: Serializer>(out: &mut S, array: Array, lines: &[Line<'_>]) -> Result<(), S::Error> {
     for line in lines {
         if line.is_in(array) {
@@ -79,7 +80,7 @@ fn put_items<S: Serializer>(out: &mut S, array: Array, lines: &[Line<'_>]) -> Re
     Ok(())
 }
 
-/// Puts what a line becomes in an array.
+/// Writes the item that a line becomes in an array.
 fn put_item<S: Serializer>(out: &mut S, array: Array, line: &Line<'_>) -> Result<(), S::Error> {
     match array {
         Array::Ignored => put_values(out, &line.members),
@@ -88,14 +89,14 @@ fn put_item<S: Serializer>(out: &mut S, array: Array, line: &Line<'_>) -> Result
     }
 }
 
-/// Puts an object with the values of a run.
+/// Writes an object with the values of a run.
 fn put_run<S: Serializer>(out: &mut S, members: &[Member<'_>]) -> Result<(), S::Error> {
     out.begin_map(None)?;
     put_members(out, members)?;
     out.end_map()
 }
 
-/// Puts the members that a line becomes.
+/// Writes the members that a line becomes, unless it is an item of an array.
 fn put_members_of<S: Serializer>(out: &mut S, line: &Line<'_>) -> Result<(), S::Error> {
     if let Becomes::Item(_) = line.becomes {
         return Ok(());
@@ -104,7 +105,7 @@ fn put_members_of<S: Serializer>(out: &mut S, line: &Line<'_>) -> Result<(), S::
     put_members(out, &line.members)
 }
 
-/// Puts the members that say whether there is a fault, and name it, if a line tells that.
+/// Writes the members for a verdict, if the line reports one: whether there is a fault, and its name.
 fn put_verdict<S: Serializer>(out: &mut S, becomes: Becomes) -> Result<(), S::Error> {
     match becomes {
         Becomes::Valid => put_valid(out, true),
@@ -113,20 +114,20 @@ fn put_verdict<S: Serializer>(out: &mut S, becomes: Becomes) -> Result<(), S::Er
     }
 }
 
-/// Puts the members that name a fault.
+/// Writes the members that report a fault.
 fn put_fault<S: Serializer>(out: &mut S, name: &str) -> Result<(), S::Error> {
     put_valid(out, false)?;
     out.key("fault")?;
     out.str(name)
 }
 
-/// Puts the member that says whether the tour or the routes have no fault.
+/// Writes the member `valid`, which is true if the tour or the routes have no fault.
 fn put_valid<S: Serializer>(out: &mut S, valid: bool) -> Result<(), S::Error> {
     out.key("valid")?;
     out.bool(valid)
 }
 
-/// Puts values without their names.
+/// Writes values without their names.
 fn put_values<S: Serializer>(out: &mut S, members: &[Member<'_>]) -> Result<(), S::Error> {
     for member in members {
         put_value(out, member.value)?;
@@ -134,7 +135,7 @@ fn put_values<S: Serializer>(out: &mut S, members: &[Member<'_>]) -> Result<(), 
     Ok(())
 }
 
-/// Puts values with their names.
+/// Writes values with their names.
 fn put_members<S: Serializer>(out: &mut S, members: &[Member<'_>]) -> Result<(), S::Error> {
     for member in members {
         out.key(member.name)?;
@@ -143,7 +144,7 @@ fn put_members<S: Serializer>(out: &mut S, members: &[Member<'_>]) -> Result<(),
     Ok(())
 }
 
-/// Puts a value: a number exactly, and what is none as a string.
+/// Writes a value: a number exactly, and anything else as a string.
 fn put_value<S: Serializer>(out: &mut S, value: &str) -> Result<(), S::Error> {
     match value.parse::<u128>() {
         Ok(number) => out.u128(number),

@@ -1,13 +1,13 @@
-//! The lines that commands print, taken apart: the names of their values, and what they become as JSON.
+//! Parses the lines that commands print: their named values, and what they become as JSON.
 
 use std::alloc::{AllocError, Global};
 
-/// What a line becomes in the object that is printed.
+/// What a line becomes in the JSON object.
 #[derive(Clone, Copy)]
 pub enum Becomes {
-    /// Members that say that the tour or the routes have no fault, and the values.
+    /// A member that says that the tour or the routes have no fault, and the values.
     Valid,
-    /// Members that name this fault, and the values.
+    /// Members that report this fault, and the values.
     Fault(&'static str),
     /// The values, as members.
     Values,
@@ -15,19 +15,19 @@ pub enum Becomes {
     Item(Array),
 }
 
-/// An array of the object.
+/// An array in the JSON object.
 #[derive(Clone, Copy, PartialEq, Eq)]
 pub enum Array {
-    /// The ignored keys. Each search has this array.
+    /// The ignored keys. The output of each search has this array, even if it is empty.
     Ignored,
-    /// The runs: objects with the values.
+    /// The runs, as objects with the values of their lines.
     Runs,
-    /// The lines of no known form: where there are any, a form is missing, but nothing is lost.
+    /// Lines that match no pattern. If there are any, a pattern is missing here, but nothing is lost.
     Unknown,
 }
 
 impl Array {
-    /// The name that it has in the object.
+    /// The name of the array in the object.
     pub fn name(self) -> &'static str {
         match self {
             Array::Ignored => "ignored",
@@ -37,13 +37,13 @@ impl Array {
     }
 }
 
-/// A form of lines: the text, in which a name in braces stands for a value, and what such a line becomes.
+/// A pattern of lines: a text with a name in braces for each value, and what such a line becomes.
 struct Form {
     text: &'static str,
     becomes: Becomes,
 }
 
-/// The forms of the lines of `check`, `checksol` and `solve`.
+/// The patterns of the lines of `check`, `checksol` and `solve`.
 static FORMS: [Form; 15] = [
     Form {
         text: "tour of {cities} cities, length {length}",
@@ -110,31 +110,31 @@ static FORMS: [Form; 15] = [
 /// A value of a line, with its name.
 #[derive(Clone, Copy)]
 pub struct Member<'a> {
-    /// The name.
+    /// The name in the pattern.
     pub name: &'static str,
-    /// The value as it stands in the line.
+    /// The text of the value in the line.
     pub value: &'a str,
 }
 
-/// A line, taken apart.
+/// A line that has been parsed.
 #[derive(Drop)]
 pub struct Line<'a> {
-    /// What it becomes.
+    /// What the line becomes.
     pub becomes: Becomes,
-    /// The line itself.
+    /// The text of the line.
     pub text: &'a str,
-    /// Its values, in order.
+    /// The values of the line, in order.
     pub members: Vec<Member<'a>>,
 }
 
 impl Line<'_> {
-    /// Whether it is an item of an array.
+    /// Whether the line is an item of this array.
     pub fn is_in(&self, array: Array) -> bool {
         matches!(self.becomes, Becomes::Item(of) if of == array)
     }
 
-    /// Whether the object has an array because of it: that of ignored keys is in the object of each search, which ends
-    /// with values, and the others are there for their items.
+    /// Whether the object must have this array because of the line. The array of ignored keys is required by a line of
+    /// values, which only a search prints; each other array is required by its items.
     pub fn asks_for(&self, array: Array) -> bool {
         match array {
             Array::Ignored => matches!(self.becomes, Becomes::Values),
@@ -143,7 +143,7 @@ impl Line<'_> {
     }
 }
 
-/// Takes a line apart.
+/// Parses a line.
 ///
 /// # Errors
 /// `AllocError` if memory runs out.
@@ -157,7 +157,7 @@ pub fn take_apart<'a>(alloc: Global, text: &'a str) -> Result<Line<'a>, AllocErr
     })
 }
 
-/// What a line becomes. Its values become the members.
+/// What a line becomes. `members` gets its values.
 fn recognize<'a>(line: &'a str, members: &mut Vec<Member<'a>>) -> Result<Becomes, AllocError> {
     for form in FORMS.iter() {
         if has_form(line, form.text, members)? {
@@ -168,7 +168,7 @@ fn recognize<'a>(line: &'a str, members: &mut Vec<Member<'a>>) -> Result<Becomes
     Ok(Becomes::Item(Array::Unknown))
 }
 
-/// Whether a line has this form. Then its values become the members.
+/// Whether a line matches this pattern. If it does, `members` gets its values.
 fn has_form<'a>(
     line: &'a str,
     form: &'static str,
@@ -181,14 +181,15 @@ fn has_form<'a>(
     }
 }
 
-/// What a line and its form have behind the first brace of the form, if they are the same before it.
+/// The rest of a line and the rest of its pattern, if the line begins with the text before the first brace of the
+/// pattern. The rest of the pattern comes after that brace.
 fn behind_front<'a>(line: &'a str, form: &'static str) -> Option<(&'a str, &'static str)> {
     let (front, pieces) = form.split_once('{')?;
     let rest = line.strip_prefix(front)?;
     Some((rest, pieces))
 }
 
-/// Takes the values from a line, and says whether that was all of it.
+/// Appends the values of a line to `members`, and returns whether the line matches to its end.
 fn take_values<'a>(
     mut line: &'a str,
     pieces: &'static str,
@@ -204,15 +205,15 @@ fn take_values<'a>(
     Ok(line.is_empty())
 }
 
-/// The value at the front of a line, and the rest behind the text that follows it. The piece of a form has its name, a
-/// brace, and that text, which is empty at the end of a line.
+/// The value at the front of a line, and the rest after the text that follows the value. The piece of the pattern is
+/// the name of the value, a closing brace, and this text, which is empty if the value ends the line.
 fn next_member<'a>(piece: &'static str, line: &'a str) -> Option<(Member<'a>, &'a str)> {
     let (name, text) = piece.split_once('}')?;
     let (value, behind) = parted(line, text)?;
     is_value(value).then_some((Member { name, value }, behind))
 }
 
-/// What a line has before a text and behind it. An empty text stands at its end.
+/// The parts of a line before and after a text. An empty text is found at the end of the line.
 fn parted<'a>(line: &'a str, text: &str) -> Option<(&'a str, &'a str)> {
     if text.is_empty() {
         return Some((line, ""));
@@ -220,7 +221,7 @@ fn parted<'a>(line: &'a str, text: &str) -> Option<(&'a str, &'a str)> {
     line.split_once(text)
 }
 
-/// Whether it is a number or the word of a key.
+/// Whether it is a number or the name of a key: some digits, capital letters and underscores.
 fn is_value(value: &str) -> bool {
     !value.is_empty()
         && value.bytes().all(|byte| byte.is_ascii_digit()

@@ -1,4 +1,4 @@
-//! What a file has as a solution of a problem.
+//! Judges texts as solutions of a problem.
 ghost use Rattle.std.specs.Prelude.{◌≡◌};
 ghost use Rattle.tk_tour.specs.Tour.{IsTour};
 
@@ -11,16 +11,16 @@ use tk_routes::{Cvrp, RouteVerdict, check_routes};
 use tk_tour::{Verdict, check, length};
 use tk_words::{FromRead, Source, TextFault, TextKind};
 
-/// What a text has as a solution of a problem.
+/// What a text contains, as a solution of a problem.
 #[derive(Clone, Copy, PartialEq, Eq)]
 pub enum Judged {
-    /// A tour of its cities, with this length.
+    /// A tour of the problem's cities, of this length.
     Tour(i64),
-    /// Valid routes, with this cost.
+    /// Valid routes, of this cost.
     Routes(i64),
     /// Something else.
     Neither,
-    /// Unknown, since the problem could not be read, or memory ran out.
+    /// Unknown, since a file could not be opened, the problem could not be read, or memory ran out.
     Unknown,
 }
 
@@ -35,7 +35,7 @@ impl Judged {
     }
 }
 
-/// What a text has as a solution of the problem in a file.
+/// Judges a text as a solution of the problem in a file.
 pub fn judge<S: Source>(rt: &HostRuntime, problem: &str, claim: &mut S) -> Judged {
     let Ok(file) = File::open(rt, problem) else {
         return Judged::Unknown;
@@ -49,7 +49,7 @@ pub fn judge<S: Source>(rt: &HostRuntime, problem: &str, claim: &mut S) -> Judge
     }
 }
 
-/// What a text has as routes of a CVRP.
+/// Judges a text as routes of a CVRP.
 fn judge_routes<S: Source>(rt: &HostRuntime, cvrp: &Cvrp<'_>, claim: &mut S) -> Judged {
     let solution = match read_solution(rt.alloc(), claim) {
         Ok(solution) => solution,
@@ -62,7 +62,7 @@ fn judge_routes<S: Source>(rt: &HostRuntime, cvrp: &Cvrp<'_>, claim: &mut S) -> 
     }
 }
 
-/// What a text has as a tour of a TSP.
+/// Judges a text as a tour of a TSP.
 fn judge_tour<S: Source>(rt: &HostRuntime, problem: &Problem, claim: &mut S) -> Judged {
     let tour = match read_tour(rt.alloc(), claim) {
         Ok(tour) => tour,
@@ -82,7 +82,7 @@ fn length_of(problem: &Problem, cities: &[u32]) -> i64
     length(&Table::of(problem), cities)
 }
 
-/// What a text has that could not be read.
+/// The verdict on a text that could not be read: unknown if memory ran out.
 fn unread(fault: &TextFault) -> Judged {
     match fault.kind {
         TextKind::NoMemory => Judged::Unknown,

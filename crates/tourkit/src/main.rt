@@ -1,4 +1,4 @@
-//! `tourkit`: symmetric travelling salesman problems and tours, read alike and checked.
+//! `tourkit`: a command-line toolkit for symmetric travelling salesman and capacitated vehicle routing problems.
 #![tactic(auto)]
 
 mod answer;

@@ -1,4 +1,4 @@
-//! The file that `solve` writes.
+//! Writes the output file of `solve`.
 use crate::file_id::{FileId, id_of};
 use crate::part::{Part, Unsaved, hindered, replace};
 use crate::report;
@@ -7,17 +7,17 @@ use std::io::{self, ErrorKind, Seek, SeekFrom, Write};
 use std::path::{Path, PathBuf};
 use std::process::ExitCode;
 
-/// How many links are followed from a name to the file that does not exist yet.
+/// Maximum number of links that are followed from a name to a file that does not exist yet.
 const LINKS: u32 = 40;
 
 /// What a name leads to.
 #[derive(Drop)]
 enum Target {
-    /// A plain file, open for writing, with its bytes.
+    /// A regular file, open for writing, with its old contents.
     Plain(File),
     /// A device, a pipe or a socket.
     Special,
-    /// Standard output, which is a plain file.
+    /// Standard output, which is redirected to a regular file.
     Output,
     /// A link to a file that does not exist.
     Dangling,
@@ -25,8 +25,8 @@ enum Target {
     Nothing,
 }
 
-/// Finds out, before a search, whether its text can be saved under a name. A file that does not exist can be created if
-/// another one can be created next to it, which is removed again.
+/// Checks before a search whether its text can be saved under a name. For a file that does not exist yet, or the
+/// missing target of a link, it creates and removes a temporary file in the same directory.
 ///
 /// # Errors
 /// The exit status, after a message.
@@ -34,7 +34,7 @@ pub fn find_place(rt: &HostRuntime, name: &str) -> Result<(), ExitCode> {
     try_place(rt, name).map_err(|unsaved| report_unsaved(rt, name, unsaved))
 }
 
-/// Whether a text can be saved under a name.
+/// Checks whether a text can be saved under a name.
 fn try_place(rt: &HostRuntime, name: &str) -> Result<(), Unsaved> {
     match target_of(rt, name)? {
         Target::Plain(_) | Target::Special | Target::Output => Ok(()),
@@ -43,7 +43,7 @@ fn try_place(rt: &HostRuntime, name: &str) -> Result<(), Unsaved> {
     }
 }
 
-/// Whether a file can be created at a path.
+/// Checks whether a file can be created at a path, by creating and removing one next to it.
 fn try_part(rt: &HostRuntime, path: &str) -> Result<(), Unsaved> {
     if path.is_empty() {
         return Err(Unsaved::Unopened);
@@ -52,7 +52,7 @@ fn try_part(rt: &HostRuntime, path: &str) -> Result<(), Unsaved> {
     Ok(())
 }
 
-/// What a name leads to. The system follows its links, so that it can refuse those that it does not trust.
+/// What a name leads to. The system follows its links, so that it can reject those that it does not trust.
 fn target_of(rt: &HostRuntime, name: &str) -> Result<Target, Unsaved> {
     match fs::metadata(rt, name) {
         Ok(found) if found.is_dir() => Err(Unsaved::Unopened),
@@ -64,14 +64,14 @@ fn target_of(rt: &HostRuntime, name: &str) -> Result<Target, Unsaved> {
     }
 }
 
-/// Whether a name such as `/dev/stdout` leads to the plain file that is standard output. Its text comes after the lines
-/// that were printed, as in a pipe.
+/// Whether a name such as `/dev/stdout` leads to the regular file to which standard output is redirected. The text is
+/// then written after the printed lines, as in a pipe.
 fn is_standard_output(rt: &HostRuntime, name: &str, found: &Metadata) -> bool {
     let output = id_of(fs::metadata(rt, "/dev/stdout"));
     name.starts_with("/dev/") && output.is_some() && output == FileId::of(found)
 }
 
-/// What a name leads to whose file does not exist.
+/// What a name leads to, if its file does not exist.
 fn missing(rt: &HostRuntime, name: &str) -> Result<Target, Unsaved> {
     match fs::symlink_metadata(rt, name) {
         Ok(_) => Ok(Target::Dangling),
@@ -80,8 +80,8 @@ fn missing(rt: &HostRuntime, name: &str) -> Result<Target, Unsaved> {
     }
 }
 
-/// Opens a file that exists, which keeps its bytes. The call would create it if it did not exist, since in a directory
-/// for everybody the system protects files of others from such calls.
+/// Opens a file that exists, without truncating it. The call would also create the file: in a world-writable directory,
+/// the system protects the files of others only from such calls.
 fn open_old(rt: &HostRuntime, name: &str) -> Result<File, Unsaved> {
     match File::options().write(true).create(true).open(rt, name) {
         Ok(file) => Ok(file),
@@ -89,7 +89,7 @@ fn open_old(rt: &HostRuntime, name: &str) -> Result<File, Unsaved> {
     }
 }
 
-/// The path that a link leads to, by way of other links, if nothing exists there.
+/// The path that a link leads to, possibly through other links, if nothing exists there.
 fn end_of_links(rt: &HostRuntime, name: &str) -> Result<PathBuf, Unsaved> {
     let mut path = named_by_link(rt, name)?;
     for _ in 0..LINKS {
@@ -101,7 +101,7 @@ fn end_of_links(rt: &HostRuntime, name: &str) -> Result<PathBuf, Unsaved> {
     Err(Unsaved::Unopened)
 }
 
-/// The path that a link names, which is relative to the directory of the link.
+/// The path that a link names. A relative one starts in the directory of the link.
 fn named_by_link(rt: &HostRuntime, link: &str) -> Result<PathBuf, Unsaved> {
     let target = match fs::read_link(rt, link) {
         Ok(target) => target,
@@ -113,8 +113,9 @@ fn named_by_link(rt: &HostRuntime, link: &str) -> Result<PathBuf, Unsaved> {
     }
 }
 
-/// Writes a text to a file. A plain file is not touched until all new bytes have been written next to it, or, if no
-/// other file can be created there, until there is room for them. A device or a pipe is written directly.
+/// Writes a text to a file. A regular file is unchanged until the text has been written to a temporary file next to it,
+/// or, if that file cannot be created or renamed, until there is room for the text. A device or a pipe is written
+/// directly.
 ///
 /// # Errors
 /// The exit status, after a message.
@@ -132,7 +133,7 @@ fn try_save(rt: &HostRuntime, name: &str, text: &[u8]) -> Result<(), Unsaved> {
     }
 }
 
-/// Reports why a text was not saved, or cannot be.
+/// Reports why a text was not or cannot be saved, and returns the exit status.
 fn report_unsaved(rt: &HostRuntime, name: &str, unsaved: Unsaved) -> ExitCode {
     match unsaved {
         Unsaved::Unwritten => report::write_fault(rt),
@@ -141,8 +142,8 @@ fn report_unsaved(rt: &HostRuntime, name: &str, unsaved: Unsaved) -> ExitCode {
     }
 }
 
-/// Writes the text to a file that exists and is open. It is replaced under the path that the name leads to, if the same
-/// file is still there.
+/// Writes the text to a file that exists and is open. The file is replaced at the path that the name leads to; on
+/// `Unsaved::NoOther`, it is overwritten instead.
 fn save_old(rt: &HostRuntime, name: &str, file: File, text: &[u8]) -> Result<(), Unsaved> {
     let found = match file.metadata() {
         Ok(found) => found,
@@ -154,7 +155,7 @@ fn save_old(rt: &HostRuntime, name: &str, file: File, text: &[u8]) -> Result<(),
     }
 }
 
-/// Replaces a file that was found under a name.
+/// Replaces the file that was found under a name, if it is still there.
 fn replace_old(rt: &HostRuntime, name: &str, found: &Metadata, text: &[u8]) -> Result<(), Unsaved> {
     let path = match fs::canonicalize(rt, name) {
         Ok(path) => path,
@@ -176,7 +177,7 @@ fn save_new(rt: &HostRuntime, name: &str, text: &[u8]) -> Result<(), Unsaved> {
     }
 }
 
-/// What it means that a file cannot be opened.
+/// Why a text is not saved, if its file cannot be opened.
 fn unopened(kind: ErrorKind) -> Unsaved {
     match kind {
         ErrorKind::OutOfMemory => Unsaved::NoMemory,
@@ -184,8 +185,8 @@ fn unopened(kind: ErrorKind) -> Unsaved {
     }
 }
 
-/// Writes the text over the bytes of a plain file, once the file is as long as the text. If there is no room for that,
-/// the file keeps its bytes.
+/// Overwrites a regular file with the text, after extending it to the length of the text. If there is no room for that,
+/// the file gets its old length back and is unchanged.
 fn write_over(mut file: File, length: u64, text: &[u8]) -> Result<(), Unsaved> {
     if lengthen(&mut file, length, text).is_err() {
         let _ = file.set_len(length);
@@ -194,7 +195,7 @@ fn write_over(mut file: File, length: u64, text: &[u8]) -> Result<(), Unsaved> {
     overwrite(&mut file, text).map_err(|_| Unsaved::Unwritten)
 }
 
-/// Writes what the text has beyond a file's length after its bytes, and waits until the disk has it.
+/// Appends the part of the text beyond the length of the file, and waits until it is on disk.
 fn lengthen(file: &mut File, length: u64, text: &[u8]) -> io::Result<()> {
     let Some((_, more)) = text.split_at_checked(length as usize) else {
         return Ok(());
@@ -204,7 +205,8 @@ fn lengthen(file: &mut File, length: u64, text: &[u8]) -> io::Result<()> {
     file.sync_all()
 }
 
-/// Writes the text from a file's first byte on, and ends the file there.
+/// Overwrites the file with the text from its first byte on, cuts it off at the end of the text, and waits until it is
+/// on disk.
 fn overwrite(file: &mut File, text: &[u8]) -> io::Result<()> {
     file.seek(SeekFrom::Start(0))?;
     file.write_all(text)?;
@@ -212,7 +214,7 @@ fn overwrite(file: &mut File, text: &[u8]) -> io::Result<()> {
     file.sync_all()
 }
 
-/// Writes the text to what the name stands for, which is not a plain file that exists.
+/// Writes the text directly to what the name leads to: a device, a pipe, a socket or a new file.
 fn write_directly(rt: &HostRuntime, name: &str, text: &[u8]) -> Result<(), Unsaved> {
     let mut file = match File::create(rt, name) {
         Ok(file) => file,

@@ -1,12 +1,12 @@
-//! One line on standard error that shows how far a search has come, where that is a terminal.
+//! The status line with the progress of a search, on standard error if that is a terminal.
 use std::io::IsTerminal;
 use std::time::{Clock, Duration};
 use tk_solve::Progress;
 
-/// The line is written again after this many milliseconds at the earliest.
+/// Minimum time between two updates of the line, in milliseconds.
 const PAUSE: u64 = 100;
 
-/// The line on standard error. Where that is no terminal, nothing is written.
+/// The status line. If standard error is not a terminal, nothing is written.
 #[derive(Drop)]
 pub struct ProgressLine<'a> {
     rt: &'a HostRuntime,
@@ -39,14 +39,14 @@ impl<'a> ProgressLine<'a> {
         );
     }
 
-    /// Takes the line away.
+    /// Erases the line.
     pub fn clear(&self) {
         if self.shown {
             let _ = eprint!(self.rt; "\r\x1b[K");
         }
     }
 
-    /// Takes note of a trial. After the last one the line is taken away.
+    /// Updates the line after a trial, at most ten times a second. After the last trial of the last run, erases it.
     pub fn trial(&mut self, progress: &Progress) {
         if !self.shown {
             return;

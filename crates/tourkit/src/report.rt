@@ -1,4 +1,4 @@
-//! What standard error and the exit status tell.
+//! Messages on standard error, and exit statuses.
 use crate::search::Search;
 use crate::shown::shown_name;
 use std::io;
@@ -9,13 +9,13 @@ use tk_params::{ParamFault, ParamKind};
 use tk_tour::TourFault;
 use tk_words::{TextFault, TextKind};
 
-/// A check found a fault.
+/// Exit status: a check found a fault.
 pub const FOUND: u8 = 1;
 
-/// Words, a text or a parameter were refused.
+/// Exit status: the arguments, a file or a parameter were rejected.
 pub const USAGE: u8 = 2;
 
-/// A file could not be opened, read or written, or there was no memory.
+/// Exit status: a file could not be opened, read or written, or memory ran out.
 pub const SYSTEM: u8 = 3;
 
 /// Prints a message about a file.
@@ -24,20 +24,20 @@ fn print(rt: &HostRuntime, file: &str, message: &str) {
     let _ = eprintln!(rt; "tourkit: {file}: {message}");
 }
 
-/// Refuses a file, or a word of the call, with a message.
+/// Rejects a file or an argument, with a message.
 fn refuse(rt: &HostRuntime, file: &str, message: &str) -> ExitCode {
     print(rt, file, message);
     ExitCode::from(USAGE)
 }
 
-/// Refuses a file for a key or an option, with a message about that.
+/// Rejects a file because of a key or an option, with a message that names both.
 fn refuse_for(rt: &HostRuntime, file: &str, named: &str, message: &str) -> ExitCode {
     let file = shown_name(rt, file);
     let _ = eprintln!(rt; "tourkit: {file}: {named} {message}");
     ExitCode::from(USAGE)
 }
 
-/// Ends with what came of words that were refused.
+/// The exit status if the arguments make no request, after a message.
 pub fn refused(rt: &HostRuntime, refusal: Refusal) -> ExitCode {
     match refusal {
         Refusal::NoMemory => no_memory(rt),
@@ -46,36 +46,36 @@ pub fn refused(rt: &HostRuntime, refusal: Refusal) -> ExitCode {
     }
 }
 
-/// Tells that the words are no text.
+/// Reports that an argument is not UTF-8.
 pub fn not_text(rt: &HostRuntime) -> ExitCode {
     let _ = eprintln!(rt; "tourkit: an argument is not UTF-8");
     ExitCode::from(USAGE)
 }
 
-/// Tells that a file cannot be opened.
+/// Reports that a file cannot be opened.
 pub fn unopened(rt: &HostRuntime, file: &str) -> ExitCode {
     print(rt, file, "cannot be opened");
     ExitCode::from(SYSTEM)
 }
 
-/// Tells that a number is that of no fault, and no file has it as its name.
+/// Reports that a number is neither that of a fault nor the name of a file.
 pub fn no_such_fault(rt: &HostRuntime, what: &str) -> ExitCode {
     refuse(rt, what, "no fault has this number, and no file this name")
 }
 
-/// Tells that a file to write is the problem's. Both are called by what names them.
+/// Reports that the output file is the problem file. The message names both by their keys, options or arguments.
 pub fn same_as_problem(rt: &HostRuntime, file: &str, named: &str, problem: &str) -> ExitCode {
     let file = shown_name(rt, file);
     let _ = eprintln!(rt; "tourkit: {file}: {named} is the same file as {problem}");
     ExitCode::from(USAGE)
 }
 
-/// Tells that a file to write is the parameter file.
+/// Reports that the output file is the parameter file.
 pub fn same_as_parameters(rt: &HostRuntime, file: &str, named: &str) -> ExitCode {
     refuse_for(rt, file, named, "is the parameter file")
 }
 
-/// Tells that options of a search were given with a parameter file.
+/// Reports that search options were given with a parameter file.
 pub fn options_for_parameters(rt: &HostRuntime, file: &str) -> ExitCode {
     refuse(
         rt,
@@ -84,19 +84,19 @@ pub fn options_for_parameters(rt: &HostRuntime, file: &str) -> ExitCode {
     )
 }
 
-/// Tells that an option has a value that no search has.
+/// Reports that an option has an invalid value.
 pub fn option_fault(rt: &HostRuntime, option: &str, kind: ParamKind) -> ExitCode {
     let _ = eprintln!(rt; "tourkit: {option}: {kind}");
     ExitCode::from(USAGE)
 }
 
-/// Notes that a file name is most likely a slip.
+/// Notes that a file name is most likely a mistake.
 pub fn note(rt: &HostRuntime, key: &str, name: &str, slip: &str) {
     let name = shown_name(rt, name);
     let _ = eprintln!(rt; "tourkit: note: the file of {key} is '{name}', with {slip}");
 }
 
-/// Notes that the file for the best tour so far has a tour from an earlier search.
+/// Notes that the file for the best tour so far contains a tour from an earlier search.
 pub fn earlier_tour(rt: &HostRuntime, name: &str, length: i64, search: &Search<'_, '_>) {
     let name = shown_name(rt, name);
     let initial = if search.by_options {
@@ -109,13 +109,13 @@ pub fn earlier_tour(rt: &HostRuntime, name: &str, length: i64, search: &Search<'
     );
 }
 
-/// Notes that the file for the best result so far has routes from an earlier search.
+/// Notes that the file for the best result so far contains routes from an earlier search.
 pub fn earlier_routes(rt: &HostRuntime, name: &str, cost: i64) {
     let name = shown_name(rt, name);
     let _ = eprintln!(rt; "tourkit: note: {name} has routes of cost {cost} from an earlier search");
 }
 
-/// Notes that the file for the best result so far is something else.
+/// Notes that the file for the best result so far is not known to solve the problem, and is kept.
 pub fn other_best(rt: &HostRuntime, name: &str) {
     let name = shown_name(rt, name);
     let _ = eprintln!(rt;
@@ -123,7 +123,7 @@ pub fn other_best(rt: &HostRuntime, name: &str) {
     );
 }
 
-/// Tells the fault of an engine over the problem of a file.
+/// Reports why an engine stopped, with the name of this file.
 pub fn stopped(rt: &HostRuntime, file: &str, fault: &Fault) -> ExitCode {
     match fault {
         Fault::Problem(fault) | Fault::Tour(fault) | Fault::Solution(fault) => {
@@ -139,7 +139,8 @@ pub fn stopped(rt: &HostRuntime, file: &str, fault: &Fault) -> ExitCode {
     }
 }
 
-/// Tells the fault of an engine over the problem of one file and what another claims of it.
+/// Reports why an engine stopped, with the name of the second file if its text has the fault, otherwise of the problem
+/// file.
 pub fn stopped_by_claim(
     rt: &HostRuntime,
     problem_file: &str,
@@ -152,7 +153,7 @@ pub fn stopped_by_claim(
     }
 }
 
-/// Tells the fault of a text.
+/// Reports the fault of a text.
 pub fn text_fault(rt: &HostRuntime, file: &str, fault: &TextFault) -> ExitCode {
     let file = shown_name(rt, file);
     let _ = eprintln!(rt; "tourkit: {file}:{fault}");
@@ -162,7 +163,7 @@ pub fn text_fault(rt: &HostRuntime, file: &str, fault: &TextFault) -> ExitCode {
     })
 }
 
-/// Tells the fault of a parameter file.
+/// Reports the fault of a parameter file.
 pub fn param_fault(rt: &HostRuntime, file: &str, fault: &ParamFault) -> ExitCode {
     let file = shown_name(rt, file);
     let _ = eprintln!(rt; "tourkit: {file}:{fault}");
@@ -172,26 +173,26 @@ pub fn param_fault(rt: &HostRuntime, file: &str, fault: &ParamFault) -> ExitCode
     })
 }
 
-/// Tells that the output could not be written.
+/// Reports that the output could not be written.
 pub fn write_fault(rt: &HostRuntime) -> ExitCode {
     let _ = eprintln!(rt; "tourkit: write fault");
     ExitCode::from(SYSTEM)
 }
 
-/// Reports that the output could not be written, and which file has the result.
+/// Reports that the output could not be written, and which file contains the result.
 pub fn write_fault_but_kept(rt: &HostRuntime, name: &str) -> ExitCode {
     let name = shown_name(rt, name);
     let _ = eprintln!(rt; "tourkit: write fault; the result is in {name}");
     ExitCode::from(SYSTEM)
 }
 
-/// Tells that there was no memory.
+/// Reports that memory ran out.
 pub fn no_memory(rt: &HostRuntime) -> ExitCode {
     let _ = eprintln!(rt; "tourkit: out of memory");
     ExitCode::from(SYSTEM)
 }
 
-/// Tells that the tour of a file is no tour to begin with.
+/// Reports the fault of an initial tour.
 fn initial_fault(rt: &HostRuntime, file: &str, fault: &TourFault) -> ExitCode {
     match fault {
         TourFault::WrongCount => refuse(rt, file, "initial tour: 1 WrongCount"),
@@ -206,14 +207,14 @@ fn initial_fault(rt: &HostRuntime, file: &str, fault: &TourFault) -> ExitCode {
     }
 }
 
-/// Refuses a file with a message about a place of its list.
+/// Rejects a file, with a message about a position in its tour, counted from 1.
 fn refuse_at(rt: &HostRuntime, file: &str, message: &str, place: u32) -> ExitCode {
     let file = shown_name(rt, file);
     let _ = eprintln!(rt; "tourkit: {file}: {message} {place}");
     ExitCode::from(USAGE)
 }
 
-/// Tells that a problem's type has no use for a key or an option.
+/// Reports that a key or an option does not apply to the problem's type.
 pub fn not_for_type(rt: &HostRuntime, file: &str, named: &str) -> ExitCode {
     refuse_for(rt, file, named, "does not fit the problem's type")
 }

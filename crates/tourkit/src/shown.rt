@@ -9,8 +9,9 @@ pub struct ShownName<'a> {
     on_terminal: bool,
 }
 
-/// A name as standard error shows it. On a terminal, a control character could change the title or the colours, so the
-/// bytes of each are shown as numbers; elsewhere only those of a line feed and a carriage return are.
+/// A name as standard error shows it. On a terminal, all control characters are escaped, since they could change its
+/// title or its colours; otherwise only line feeds and carriage returns. An escape is `\x` and two hexadecimal digits
+/// for each byte.
 pub fn shown_name<'a>(rt: &HostRuntime, name: &'a str) -> ShownName<'a> {
     ShownName {
         name,
@@ -18,7 +19,7 @@ pub fn shown_name<'a>(rt: &HostRuntime, name: &'a str) -> ShownName<'a> {
     }
 }
 
-/// A name as a page on standard output shows it.
+/// A name as a page on standard output shows it, with escapes by the same rules.
 pub fn shown_on_output<'a>(rt: &HostRuntime, name: &'a str) -> ShownName<'a> {
     ShownName {
         name,
@@ -39,7 +40,7 @@ impl fmt::Display for ShownName<'_> {
     }
 }
 
-/// Whether the bytes of a character are shown as numbers.
+/// Whether a character is escaped.
 fn is_escaped(character: char, on_terminal: bool) -> bool {
     match character {
         '\n' | '\r' => true,
@@ -47,7 +48,7 @@ fn is_escaped(character: char, on_terminal: bool) -> bool {
     }
 }
 
-/// Writes each byte of a character as its number.
+/// Writes the escapes of the bytes of a character.
 fn write_bytes<W: fmt::Write>(f: &mut fmt::Formatter<W>, character: char) -> fmt::Result {
     for byte in character.encode_utf8(&mut [0; 4]).bytes() {
         write!(f, "\\x{byte:02x}")?;

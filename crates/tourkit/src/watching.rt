@@ -1,4 +1,4 @@
-//! What becomes of what a search shows while it runs.
+//! The observer of a search.
 use crate::best::BestFile;
 use crate::progress::ProgressLine;
 use crate::search::Search;
@@ -8,7 +8,7 @@ use tk_engines::write_run_line;
 use tk_solve::{Progress, RunReport, Watch};
 use tk_writers::ToWrite;
 
-/// The line on a terminal, the lines of runs on standard error, and the best tour in a file.
+/// Shows the status line on a terminal, prints the lines of runs on standard error, and keeps the best tour in a file.
 #[derive(Drop)]
 pub struct SearchWatch<'a> {
     rt: &'a HostRuntime,
@@ -18,7 +18,7 @@ pub struct SearchWatch<'a> {
 }
 
 impl<'a> SearchWatch<'a> {
-    /// Before a search. The lines of runs are written if `lines` says so.
+    /// An observer of a search that has not begun. It prints the lines of runs if `lines` is true.
     ///
     /// # Errors
     /// `AllocError` if memory runs out.
@@ -36,13 +36,13 @@ impl<'a> SearchWatch<'a> {
         })
     }
 
-    /// Notes that the search has written its file.
+    /// Removes the file with the best tour, once the search has written its output file.
     pub fn end(&self) {
         self.best.remove();
     }
 
-    /// Keeps the text of the result, which could not be printed. It returns the name of the file with it, if it could
-    /// be saved.
+    /// Keeps the text of a result that could not be printed. Returns the name of the file with it, if it could be
+    /// saved.
     pub fn keep_result(&mut self, text: &[u8]) -> Option<&str> {
         self.best.keep_result(text)
     }

@@ -1,12 +1,12 @@
-//! The words of the call.
+//! The arguments of the program.
 use crate::report;
 use std::io::ErrorKind;
 use std::process::ExitCode;
 
-/// The words of the call, the program's name first.
+/// The arguments, beginning with the name of the program.
 ///
 /// # Errors
-/// The exit status, after a message: a word is not UTF-8, or memory ran out.
+/// The exit status, after a message, if an argument is not UTF-8 or memory runs out.
 pub fn words_of_call(rt: &HostRuntime) -> Result<Vec<String>, ExitCode> {
     let words = match std::env::args(rt) {
         Ok(words) => words.collect::<Vec<String>>(rt.alloc()),

@@ -1,4 +1,4 @@
-//! The file that `solve` is to write, looked at before the search.
+//! Checks the output file of `solve` before the search.
 use crate::file_id::{FileId, id_of};
 use crate::output::find_place;
 use crate::report;
@@ -7,30 +7,30 @@ use std::fs;
 use std::process::ExitCode;
 use tk_params::Key;
 
-/// The files that `solve` reads.
+/// The files that `solve` reads, as far as they are regular files.
 #[derive(Clone, Copy)]
 pub struct Kept {
     /// The parameter file.
     pub parameters: Option<FileId>,
-    /// The problem's file.
+    /// The problem file.
     pub problem: Option<FileId>,
-    /// The initial tour's, which may be written over by one that is not longer.
+    /// The initial tour file, which may be overwritten, since the new tour is not longer.
     pub initial: Option<FileId>,
 }
 
 impl Kept {
-    /// Whether what was found is the problem's file or the parameter file.
+    /// Whether the file that was found is the problem file or the parameter file, which must not be overwritten.
     pub fn has_to_stay(&self, found: Option<FileId>) -> bool {
         found.is_some() && (found == self.problem || found == self.parameters)
     }
 
-    /// Whether what was found is the initial tour's file.
+    /// Whether the file that was found is the initial tour file.
     pub fn is_initial(&self, found: Option<FileId>) -> bool {
         found.is_some() && found == self.initial
     }
 }
 
-/// Refuses a file to write that is the parameter file or the problem's, or that cannot be written.
+/// Rejects an output file that is the parameter file or the problem file, or that cannot be written.
 ///
 /// # Errors
 /// The exit status, after a message.
@@ -48,7 +48,7 @@ pub fn check_written(
     Ok(())
 }
 
-/// Refuses a name that leads to a file which is kept.
+/// Rejects a name that leads to the problem file or the parameter file.
 fn check_other(
     rt: &HostRuntime,
     search: &Search<'_, '_>,
@@ -70,7 +70,7 @@ fn check_other(
     Ok(())
 }
 
-/// Tells, after a run, of file names in a parameter file that are most likely slips.
+/// Notes, after a search, the file names in a parameter file that are most likely mistakes.
 pub fn note_slips(rt: &HostRuntime, search: &Search<'_, '_>) {
     if search.by_options {
         return;
@@ -87,7 +87,7 @@ pub fn note_slips(rt: &HostRuntime, search: &Search<'_, '_>) {
     }
 }
 
-/// Tells of a file name with a colon before it or what looks like a comment after it.
+/// Notes a file name that begins with a colon, or that seems to include a comment.
 fn note_slip(rt: &HostRuntime, key: &str, name: &str) {
     if name.starts_with(':') {
         report::note(rt, key, name, "the colon");

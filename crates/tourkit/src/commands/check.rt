@@ -28,7 +28,7 @@ pub fn check_command(
     }
 }
 
-/// The status: whether the tour has no fault.
+/// The exit status: 0 for a tour, 1 for a fault.
 pub fn status_of(verdict: Verdict) -> ExitCode {
     match verdict {
         Verdict::Tour => ExitCode::SUCCESS,

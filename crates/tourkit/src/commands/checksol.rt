@@ -28,7 +28,7 @@ pub fn checksol_command(
     }
 }
 
-/// The status: whether the routes have no fault.
+/// The exit status: 0 for valid routes, 1 for a fault.
 pub fn status_of(verdict: RouteVerdict) -> ExitCode {
     match verdict {
         RouteVerdict::Valid { .. } => ExitCode::SUCCESS,

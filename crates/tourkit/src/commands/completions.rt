@@ -5,7 +5,7 @@ use std::io::Write;
 use std::process::ExitCode;
 use tk_command_line::Shell;
 
-/// `--completions SHELL`
+/// `--completions SHELL`.
 pub fn completions_command(rt: &HostRuntime, shell: Shell) -> ExitCode {
     match rt.stdout().write_all(completions_of(shell)) {
         Ok(()) => ExitCode::SUCCESS,
@@ -13,7 +13,7 @@ pub fn completions_command(rt: &HostRuntime, shell: Shell) -> ExitCode {
     }
 }
 
-/// The completions of a shell.
+/// The completions for a shell.
 fn completions_of(shell: Shell) -> &'static [u8] {
     match shell {
         Shell::Bash => BASH,

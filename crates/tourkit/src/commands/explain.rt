@@ -9,7 +9,7 @@ use std::process::ExitCode;
 use tk_diagnosis::{FileFault, kind_of};
 use tk_explain::{fault_page, file_page, is_number, line_page, unread_fault};
 
-/// `explain WHAT [LINE]`. Where no line is given, the number or the name of a fault is that fault, and else a file.
+/// `explain WHAT [LINE]`. Without a line, WHAT can be the number or the name of a fault; otherwise it is a file.
 pub fn explain_command(rt: &HostRuntime, what: &str, line: Option<u64>) -> ExitCode {
     if line.is_some() {
         return explain_file(rt, what, line);
@@ -22,7 +22,7 @@ pub fn explain_command(rt: &HostRuntime, what: &str, line: Option<u64>) -> ExitC
     }
 }
 
-/// Whether it is a number, and no file has it as its name.
+/// Whether it is a number that is not also the name of a file.
 fn is_only_number(rt: &HostRuntime, what: &str) -> bool {
     is_number(what) && fs::metadata(rt, what).is_err()
 }
@@ -55,7 +55,7 @@ fn print_text(rt: &HostRuntime, name: &str, text: &[u8], line: Option<u64>) -> E
     }
 }
 
-/// Tells that a file could not be read to its end.
+/// Reports that a file could not be read to its end.
 fn tell_unread(rt: &HostRuntime, name: &str, text: &[u8]) -> ExitCode {
     match unread_fault(kind_of(text, name), text) {
         FileFault::Text(fault) => report::text_fault(rt, name, &fault),

@@ -7,7 +7,7 @@ use tk_near::ListLength;
 use tk_words::FromRead;
 use tk_writers::ToWrite;
 
-/// `near PROBLEM -k N`.
+/// `near PROBLEM [-k N]`.
 pub fn near_command(rt: &HostRuntime, file: &str, length: ListLength) -> ExitCode {
     let problem = match open(rt, file) {
         Ok(problem) => problem,

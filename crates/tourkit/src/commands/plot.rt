@@ -32,7 +32,7 @@ pub fn plot_command(
     }
 }
 
-/// The page of the files that the program holds.
+/// The HTML page, from the files that are embedded in the program.
 fn page() -> Form<'static> {
     Form::Page(Parts {
         head: HEAD,
@@ -57,7 +57,8 @@ fn plot_alone(rt: &HostRuntime, problem_file: &str, form: Form<'_>) -> ExitCode 
     }
 }
 
-/// Draws a problem and what is claimed of it, and tells what came of it.
+/// Draws a problem, with the tour or the routes of the second file if there is one. Returns the exit status, after a
+/// message if there is a fault.
 fn draw<P: Source, C: Source>(
     rt: &HostRuntime,
     problem: &mut P,
@@ -85,7 +86,7 @@ fn draw<P: Source, C: Source>(
     }
 }
 
-/// The status: whether what was claimed has no fault.
+/// The exit status: 1 if the tour or the routes have a fault, otherwise 0.
 fn status_of(plotted: Plotted) -> ExitCode {
     match plotted {
         Plotted::Cities => ExitCode::SUCCESS,

@@ -28,7 +28,7 @@ pub fn solve_command<'a>(
     }
 }
 
-/// The search that a parameter file asks for.
+/// Runs the search that a parameter file specifies.
 fn solve_parameters(rt: &HostRuntime, file: &str, shown: Shown) -> ExitCode {
     let parameters = match open(rt, file) {
         Ok(parameters) => parameters,
@@ -41,7 +41,7 @@ fn solve_parameters(rt: &HostRuntime, file: &str, shown: Shown) -> ExitCode {
     }
 }
 
-/// The search that options ask for.
+/// Runs the search that options specify.
 fn solve_problem<'a>(
     rt: &HostRuntime,
     problem: &'a str,
@@ -59,7 +59,7 @@ fn solve_problem<'a>(
     }
 }
 
-/// Opens the problem's file and that of the initial tour, and looks at the one to write, before it reads either.
+/// Runs a search. Before reading the problem or the initial tour, it opens both files and checks the output file.
 fn solve(
     rt: &HostRuntime,
     search: &Search<'_, '_>,
@@ -99,7 +99,7 @@ fn solve(
     }
 }
 
-/// Begins the search with what becomes of what it shows and prints.
+/// Runs the search, after setting up its observer and its output.
 fn begin<P: Source, I: Source>(
     rt: &HostRuntime,
     search: &Search<'_, '_>,
@@ -115,7 +115,7 @@ fn begin<P: Source, I: Source>(
     run(rt, search, kept, problem, initial, &mut out, &mut watch)
 }
 
-/// Searches, and tells what came of it. The text for the file is kept in memory first.
+/// Searches, and writes the result or reports why there is none. The text for the output file is first kept in memory.
 fn run<P: Source, I: Source>(
     rt: &HostRuntime,
     search: &Search<'_, '_>,
@@ -155,8 +155,8 @@ fn unwritten(
     unprinted(rt, answer.unwritten(), &file.inner, watch)
 }
 
-/// Reports that the answer could not be printed. If standard output took no more, what was found is kept next to the
-/// file that was to be written.
+/// Reports that the output could not be printed. If a write to standard output failed, the result is kept next to the
+/// output file.
 fn unprinted(
     rt: &HostRuntime,
     unprinted: Unprinted,
@@ -172,7 +172,7 @@ fn unprinted(
     }
 }
 
-/// Prints the answer, and writes the text to its file.
+/// Prints the output, and writes the text to the output file.
 fn print_found(
     rt: &HostRuntime,
     search: &Search<'_, '_>,
@@ -186,7 +186,7 @@ fn print_found(
     }
 }
 
-/// Tells why a search was stopped before it has written anything.
+/// Reports why a search stopped before it wrote anything.
 fn stopped(rt: &HostRuntime, search: &Search<'_, '_>, kept: Kept, fault: &Fault) -> ExitCode {
     match fault {
         Fault::Tour(_) | Fault::Initial(_) => {
@@ -204,7 +204,8 @@ fn stopped(rt: &HostRuntime, search: &Search<'_, '_>, kept: Kept, fault: &Fault)
     }
 }
 
-/// Writes the text to the file that was named for it, if any.
+/// Writes the text to the output file, if there is one, and notes file names that look like mistakes. After that, the
+/// file with the best tour so far is removed, unless the write failed.
 fn save_found(
     rt: &HostRuntime,
     search: &Search<'_, '_>,
