@@ -1,4 +1,4 @@
-//! The best tour of a long search, kept in a file next to the one that the search will write.
+//! The best tour of a long search so far, in a file next to the one that the search will write.
 use crate::best_place::BestPlace;
 use crate::search::Search;
 use crate::written::Kept;
@@ -7,28 +7,28 @@ use std::time::{Clock, Duration};
 use tk_solve::Progress;
 use tk_writers::{ToWrite, write_tour};
 
-/// The tour is saved for the first time after this many seconds, and then again after as many at the earliest.
+/// The tour is first saved after this many seconds, and then at most once in this many seconds.
 const PAUSE: u64 = 5;
 
 /// The best tour so far, and the place where it is saved.
 #[derive(Drop)]
 pub struct BestFile<'a> {
     rt: &'a HostRuntime,
-    /// Where it is saved. Nothing is saved if the search has no such place.
+    /// Where it is saved; `None` if it is not saved.
     place: Option<BestPlace<'a>>,
     /// The name of the problem.
     problem: Vec<u8>,
-    /// The shortest of the tours with which runs have ended, and its length.
+    /// The shortest of the best tours of completed runs, and its length.
     ended: Vec<u32>,
     ended_length: i64,
     /// The length of the tour that is saved.
     saved: i64,
-    /// When the next one may be saved.
+    /// The earliest time at which the next one is saved.
     next: Duration,
 }
 
 impl<'a> BestFile<'a> {
-    /// Nothing is saved yet.
+    /// A file that has not been saved yet.
     ///
     /// # Errors
     /// `AllocError` if memory runs out.
@@ -56,7 +56,7 @@ impl<'a> BestFile<'a> {
     }
 
     /// Saves the best tour so far if it is shorter than the one that is saved and the pause has passed. At the end of a
-    /// run it is kept in memory or, if one is saved already, saved.
+    /// run, it is kept in memory or, if one has been saved before, saved.
     pub fn trial(&mut self, progress: &Progress, best: &[u32]) {
         if self.place.is_none() {
             return;
@@ -70,7 +70,7 @@ impl<'a> BestFile<'a> {
         }
     }
 
-    /// Saves a tour if the pause has passed, or, at the end of a run, if one is saved already.
+    /// Saves a tour if the pause has passed or, at the end of a run, if one has been saved before.
     fn save_in_time(&mut self, length: i64, cities: &[u32], ends: bool) {
         let Ok(now) = self.rt.monotonic() else {
             return;
@@ -81,7 +81,7 @@ impl<'a> BestFile<'a> {
         }
     }
 
-    /// Keeps the tour with which a run has ended. Nothing more is saved if memory runs out.
+    /// Keeps the best tour of a completed run in memory. If memory runs out, nothing more is saved.
     fn keep(&mut self, length: i64, cities: &[u32]) {
         self.ended.clear();
         if self.ended.extend_from_slice(cities).is_err() {
@@ -90,7 +90,7 @@ impl<'a> BestFile<'a> {
         self.ended_length = length;
     }
 
-    /// Saves the tour, or the one that is kept if that is shorter.
+    /// Saves the tour or, if that is shorter, the one that is kept in memory.
     fn save(&mut self, length: i64, cities: &[u32]) {
         let shortest = self.ended_length.min(length);
         let Some(place) = &mut self.place else {
@@ -109,8 +109,8 @@ impl<'a> BestFile<'a> {
         }
     }
 
-    /// Keeps the text of the whole search's result, which could not be printed. It returns the name of the file with
-    /// it, if it could be saved.
+    /// Saves the text of the result of the search, which could not be printed. Returns the name of the file if that
+    /// succeeded.
     pub fn keep_result(&mut self, text: &[u8]) -> Option<&str> {
         let place = self.place.as_mut()?;
         let length = place.length_of(text);
@@ -121,7 +121,7 @@ impl<'a> BestFile<'a> {
         }
     }
 
-    /// Removes the file, once the search has written its own.
+    /// Removes the file, after the search has written its result.
     pub fn remove(&self) {
         if let Some(place) = &self.place {
             place.remove();
@@ -129,7 +129,7 @@ impl<'a> BestFile<'a> {
     }
 }
 
-/// Puts a tour into its place. It returns whether that could be done.
+/// Saves a tour. Returns whether that succeeded.
 fn put_tour(
     rt: &HostRuntime,
     place: &mut BestPlace<'_>,
@@ -141,7 +141,7 @@ fn put_tour(
     length >= 0 && write_tour(&mut text, problem, length, cities).is_ok() && place.put(&text.inner)
 }
 
-/// When the first tour may be saved.
+/// The earliest time at which a tour is saved, from now.
 fn pause_from(rt: &HostRuntime) -> Duration {
     match rt.monotonic() {
         Ok(now) => now.saturating_add(Duration::from_secs(PAUSE)),

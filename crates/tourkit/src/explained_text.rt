@@ -1,4 +1,4 @@
-//! The text of a file that is explained: the whole file, or as much of it as decides the explanation.
+//! The text of a file that is explained: the whole file, or the part that determines the explanation.
 use crate::input::Input;
 use std::alloc::{AllocError, Global};
 use std::io::Read;
@@ -9,8 +9,8 @@ use tk_problem::TEXT_LIMIT;
 use tk_problem_text::read_problem;
 use tk_words::{FromRead, TextFault, TextKind};
 
-/// After this many bytes, and each time that they have doubled, a file is read on only if its explanation depends on
-/// what follows.
+/// After this many bytes, and each time that their number has doubled, reading continues only if the explanation
+/// depends on further bytes.
 const FIRST_LOOK: usize = 1 << 24;
 
 /// All kinds of files.
@@ -19,7 +19,7 @@ const KINDS: [Kind; 4] = [Kind::Problem, Kind::Tour, Kind::Solution, Kind::Param
 /// Why a file was not read.
 #[derive(Drop)]
 pub enum Unread {
-    /// A read failed after these bytes.
+    /// Reading failed after these bytes.
     Failed(Vec<u8>),
     /// Memory ran out.
     NoMemory,
@@ -31,8 +31,8 @@ impl From<AllocError> for Unread {
     }
 }
 
-/// Reads a file that is explained, or of which a line is: to its end, to the first bytes after the limit of texts, or
-/// until no more bytes can change the explanation.
+/// Reads a file to explain it or one of its lines: up to its end, just beyond the limit of a text, or until no further
+/// bytes can change the explanation.
 ///
 /// # Errors
 /// `Unread`, as it says.
@@ -64,8 +64,8 @@ pub fn read_explained(
     Ok(text)
 }
 
-/// Whether no more bytes can change the explanation of a file, or of one of its lines. Of a line, all kinds of files
-/// count, and the line is there, or none has ended in the second half of the bytes.
+/// Whether no further bytes can change the explanation of a file, or of one of its lines. For a line, the readers of
+/// all kinds of files must have stopped, and the line must be complete, or the last line longer than half of the bytes.
 fn is_decided(
     alloc: Global,
     name: &str,
@@ -83,8 +83,8 @@ fn is_decided(
     Ok(number < last_line(text) || !text[text.len() / 2..].contains(&b'\n'))
 }
 
-/// Whether the reader of a kind of files stops before the end of a text: then it returns the same for each text that
-/// begins so.
+/// Whether the reader of a kind of file stops before the end of a text. If so, it returns the same for every text that
+/// begins with this one.
 fn stops_within(alloc: Global, kind: Kind, text: &[u8]) -> Result<bool, AllocError> {
     let mut source = FromRead::new(text);
     let had_memory = match kind {

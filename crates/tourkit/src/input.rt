@@ -7,6 +7,9 @@ use std::os::fd::AsFd;
 use std::process::ExitCode;
 use tk_command_line::STANDARD;
 
+/// The path of standard input.
+const STANDARD_PATH: &str = "/dev/stdin";
+
 /// An input file that is open, or standard input.
 #[derive(Drop)]
 pub enum Input {
@@ -15,11 +18,11 @@ pub enum Input {
 }
 
 impl Input {
-    /// Which plain file it is, if it is one.
+    /// The identity of the file, if it is a regular file.
     pub fn id(&self, rt: &HostRuntime) -> Option<FileId> {
         match self {
             Input::File(file) => id_of(file.metadata()),
-            Input::Standard(_) => id_of(fs::metadata(rt, "/dev/stdin")),
+            Input::Standard(_) => id_of(fs::metadata(rt, STANDARD_PATH)),
         }
     }
 }
@@ -33,7 +36,16 @@ impl Read for Input {
     }
 }
 
-/// Opens an input file, or reports that it cannot be opened. Standard input cannot be if it is closed.
+/// The path of an input file that the command line names. If it is a regular file, it can be opened again by this path.
+pub fn path_of(name: &str) -> &str {
+    if name == STANDARD {
+        STANDARD_PATH
+    } else {
+        name
+    }
+}
+
+/// Opens an input file, or reports that it cannot be opened, such as standard input if that is closed.
 ///
 /// # Errors
 /// The exit status, after a message that names the file.
@@ -58,8 +70,8 @@ pub fn open_file(rt: &HostRuntime, name: &str) -> Result<Input, ExitCode> {
     }
 }
 
-/// Opens two input files in this order, or reports the first that cannot be opened. Standard input comes first where it
-/// is the second: if it is closed, the other file would be taken for it.
+/// Opens two input files in this order, or reports the first that cannot be opened. If the second is standard input, it
+/// comes first: if standard input is closed, the other file would get its number.
 ///
 /// # Errors
 /// The exit status, after a message that names the file that could not be opened.

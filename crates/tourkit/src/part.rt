@@ -1,4 +1,4 @@
-//! A new file next to another one, whose place it takes once it is whole.
+//! A new file next to another one, which it replaces once it is complete.
 use std::alloc::AllocError;
 use std::fs::{self, File, Metadata, Permissions};
 use std::io::{self, ErrorKind, Write};
@@ -6,20 +6,20 @@ use std::os::fd::AsFd;
 use std::os::unix::fs::{MetadataExt, OpenOptionsExt, PermissionsExt, fchown};
 use std::process;
 
-/// How many names are tried for a new file.
+/// Maximum number of names that are tried for a new file.
 const NAMES: u32 = 100;
 
-/// The bits of a mode that a new file takes over from an old one: who may read, write and run it. A new file never runs
-/// with the rights of its owner or group.
-const RIGHTS: u32 = 0o777;
+/// The bits of a mode that a new file takes over from an old one: who may read, write and run it. The setuid and setgid
+/// bits are not among them.
+const PERMISSIONS: u32 = 0o777;
 
-/// The bits of a mode that a new file is asked for. The caller's umask takes away from them.
+/// The mode that is requested for a new file. The caller's umask clears some of its bits.
 const NEW_FILE: u32 = 0o666;
 
 /// Why a text was not saved.
 #[derive(Drop)]
 pub enum Unsaved {
-    /// No other file could be created next to the file, or put in its place.
+    /// No new file could be created next to the file, or it could not replace the file.
     NoOther,
     /// The file could not be opened.
     Unopened,
@@ -29,8 +29,8 @@ pub enum Unsaved {
     NoMemory,
 }
 
-/// Writes a text to a new file next to the one at `path`, waits until the disk has it, and gives it the name of that
-/// file. It returns what is known of the new file. An old file at `path` is not touched if that fails.
+/// Writes a text to a new file next to the one at `path`, waits until it is on disk, and renames it to `path`. Returns
+/// the metadata of the new file. If that fails, an old file at `path` is unchanged.
 ///
 /// # Errors
 /// `Unsaved`, as it says.
@@ -60,15 +60,15 @@ pub struct Part {
 
 impl Part {
     /// Creates a new file next to the one at `path`, under the first of some short names that is free. If there is an
-    /// old file at `path`, the new one belongs to its owner and group and has its rights, as far as the caller may set
-    /// them. Otherwise it has no more than those of a file that the caller creates.
+    /// old file at `path`, the new one gets its owner, group and permissions, as far as the caller is allowed to set
+    /// them. Otherwise, its permissions are at most those of any file that the caller creates.
     ///
     /// # Errors
     /// `Unsaved`, as it says.
     pub fn next_to(rt: &HostRuntime, path: &str, old: Option<&Metadata>) -> Result<Part, Unsaved> {
         let part = create(rt, path, old.map_or(NEW_FILE, |old| old.mode() & NEW_FILE))?;
         if let Some(old) = old {
-            if keep_rights(&part.file, old).is_err() {
+            if keep_permissions(&part.file, old).is_err() {
                 part.remove(rt);
                 return Err(Unsaved::Unwritten);
             }
@@ -76,15 +76,14 @@ impl Part {
         Ok(part)
     }
 
-    /// Writes a text to the new file, and waits until the disk has it.
+    /// Writes a text to the new file, and waits until it is on disk.
     fn fill(&mut self, text: &[u8]) -> io::Result<Metadata> {
         self.file.write_all(text)?;
         self.file.sync_all()?;
         self.file.metadata()
     }
 
-    /// Gives the new file the name of the one next to which it was created, and waits until the disk has the directory.
-    /// If that fails, it is removed.
+    /// Renames the new file to `path`, and waits until the directory is on disk. If that fails, removes the new file.
     fn put_in_place(&self, rt: &HostRuntime, path: &str) -> io::Result<()> {
         let placed = fs::rename(rt, &self.name, path);
         if placed.is_err() {
@@ -101,7 +100,7 @@ impl Part {
     }
 }
 
-/// Creates a new file with at most these rights.
+/// Creates a new file with at most these permissions.
 fn create(rt: &HostRuntime, path: &str, mode: u32) -> Result<Part, Unsaved> {
     for number in 0..NAMES {
         let Ok(name) = part_name(rt, path, number) else {
@@ -123,20 +122,25 @@ fn create(rt: &HostRuntime, path: &str, mode: u32) -> Result<Part, Unsaved> {
 
 /// A name in the directory of the file.
 fn part_name(rt: &HostRuntime, path: &str, number: u32) -> Result<String, AllocError> {
+    let directory = directory_of(path);
     let process = process::id(rt.process());
+    format!(in rt.alloc(); "{directory}/tourkit.{process}.{number}.part")
+}
+
+/// The directory of a file.
+fn directory_of(path: &str) -> &str {
     match path.rsplit_once('/') {
-        Some((directory, _)) => {
-            format!(in rt.alloc(); "{directory}/tourkit.{process}.{number}.part")
-        }
-        None => format!(in rt.alloc(); "tourkit.{process}.{number}.part"),
+        Some(("", _)) => "/",
+        Some((directory, _)) => directory,
+        None => ".",
     }
 }
 
-/// Gives a new file the owner and the group of an old one, and then its rights. If it cannot belong to them, it keeps
-/// the rights that it was created with.
-fn keep_rights(new: &File, old: &Metadata) -> io::Result<()> {
+/// Gives a new file the owner and the group of an old one, and then its permissions. If it cannot get both, it keeps
+/// the permissions that it was created with.
+fn keep_permissions(new: &File, old: &Metadata) -> io::Result<()> {
     if has_owner_of(new, old)? || give_to_owner_of(new, old) {
-        new.set_permissions(Permissions::from_mode(old.mode() & RIGHTS))?;
+        new.set_permissions(Permissions::from_mode(old.mode() & PERMISSIONS))?;
     }
     Ok(())
 }
@@ -147,8 +151,7 @@ fn has_owner_of(new: &File, old: &Metadata) -> io::Result<bool> {
     Ok(found.uid() == old.uid() && found.gid() == old.gid())
 }
 
-/// Gives a new file to the owner and the group of an old one, or at least to its group. It returns whether both could
-/// be done.
+/// Gives a new file the owner and the group of an old one, or at least its group. Returns whether it got both.
 fn give_to_owner_of(new: &File, old: &Metadata) -> bool {
     let given = fchown(new.as_fd(), Some(old.uid()), Some(old.gid())).is_ok();
     if !given {
@@ -157,20 +160,15 @@ fn give_to_owner_of(new: &File, old: &Metadata) -> bool {
     given
 }
 
-/// Waits until the disk has the directory of a file, if the file system can.
+/// Waits until the directory of a file is on disk, if the file system supports that.
 fn sync_directory(rt: &HostRuntime, path: &str) {
-    let directory = match path.rsplit_once('/') {
-        Some(("", _)) => "/",
-        Some((directory, _)) => directory,
-        None => ".",
-    };
-    if let Ok(directory) = File::open(rt, directory) {
+    if let Ok(directory) = File::open(rt, directory_of(path)) {
         let _ = directory.sync_all();
     }
 }
 
-/// What it means that a file cannot be created or put in place. If the disk is full or memory has run out, no other way
-/// is tried.
+/// The reason why a text was not saved, if its file cannot be created or renamed. If the disk is full or memory has run
+/// out, no other way is tried.
 pub fn hindered(kind: ErrorKind) -> Unsaved {
     match kind {
         ErrorKind::StorageFull | ErrorKind::QuotaExceeded => Unsaved::Unwritten,

@@ -1,31 +1,31 @@
-//! A search that is asked for: what it is to do, and its files.
+//! A search that the command line or a parameter file requests: its parameters and its files.
 
-use crate::input::{Input, open, open_file, open_two};
+use crate::input::{Input, open, open_file, open_two, path_of};
 use std::process::ExitCode;
-use tk_command_line::{STANDARD, SearchOptions};
+use tk_command_line::SearchOptions;
 use tk_params::{Key, Params};
 
-/// A search, asked for by a parameter file or by options.
+/// A search, requested by a parameter file or by options.
 #[derive(Clone, Copy)]
 pub struct Search<'p, 'a> {
-    /// What it is to do.
+    /// Its parameters.
     pub params: &'p Params,
-    /// Whether options ask for it.
+    /// Whether options request it.
     pub by_options: bool,
-    /// The file that asks for it, or, with options, the problem's.
+    /// The parameter file or, with options, the problem file.
     pub file: &'a str,
-    /// The problem's file.
+    /// The problem file.
     pub problem: &'a str,
-    /// The file of the tour that each run begins with.
+    /// The file of the initial tour, if there is one.
     pub initial: Option<&'a str>,
-    /// Where a tour is written; with options, also routes.
+    /// The file for the tour; with options, also for routes.
     pub tour_file: Option<&'a str>,
-    /// Where routes are written.
+    /// The file for routes.
     pub solution_file: Option<&'a str>,
 }
 
 impl<'a> Search<'a, 'a> {
-    /// The search that a parameter file asks for.
+    /// The search that a parameter file requests.
     pub fn by_keys(file: &'a str, params: &'a Params) -> Search<'a, 'a> {
         Search {
             params,
@@ -40,8 +40,8 @@ impl<'a> Search<'a, 'a> {
 }
 
 impl<'p, 'a> Search<'p, 'a> {
-    /// The search that options ask for. The type of the problem is not known yet: whatever is found is written to the
-    /// one file.
+    /// The search that options request. The type of the problem is not known yet, so the same file is for a tour or for
+    /// routes.
     pub fn by_options(
         problem: &'a str,
         params: &'p Params,
@@ -58,8 +58,8 @@ impl<'p, 'a> Search<'p, 'a> {
         }
     }
 
-    /// Opens the problem, and the tour to begin with, if there is one. `-` is standard input on the command line, and a
-    /// file of this name in a parameter file.
+    /// Opens the problem and, if there is one, the initial tour. On the command line, `-` is standard input; in a
+    /// parameter file, it is the name of a file.
     ///
     /// # Errors
     /// The exit status, after a message.
@@ -71,7 +71,7 @@ impl<'p, 'a> Search<'p, 'a> {
         Ok((problem, Some(initial)))
     }
 
-    /// Opens the problem and the tour to begin with. On the command line only one of them is standard input.
+    /// Opens the problem and the initial tour. On the command line, only one of them can be standard input.
     fn open_both(&self, rt: &HostRuntime, initial: &str) -> Result<(Input, Input), ExitCode> {
         if self.by_options {
             return open_two(rt, self.problem, initial);
@@ -94,10 +94,10 @@ impl<'p, 'a> Search<'p, 'a> {
         self.tour_file.or(self.solution_file)
     }
 
-    /// A path to the problem's file.
+    /// The path of the problem file.
     pub fn problem_path(&self) -> &'a str {
-        if self.by_options && self.problem == STANDARD {
-            "/dev/stdin"
+        if self.by_options {
+            path_of(self.problem)
         } else {
             self.problem
         }
@@ -114,7 +114,7 @@ impl<'p, 'a> Search<'p, 'a> {
         }
     }
 
-    /// What messages call the file of a key.
+    /// The name of a key in messages: that of the option, if options request the search.
     pub fn named(&self, key: Key) -> &'static str {
         match key {
             Key::ProblemFile if self.by_options => "PROBLEM",

@@ -1,18 +1,19 @@
-//! A search that options ask for, without a parameter file.
+//! A search that options request, without a parameter file.
 
+use crate::input::path_of;
 use crate::report;
 use std::fs::File;
 use std::io::Read;
 use std::process::ExitCode;
-use tk_command_line::{STANDARD, SearchOptions};
+use tk_command_line::SearchOptions;
 use tk_diagnosis::begins_with_key;
 use tk_params::{Key, ParamKind, Params, ParamsBuilder};
 
-/// How much is looked at to see whether a file is a parameter file.
+/// The number of bytes that are read to decide whether a file is a parameter file.
 const HEAD: usize = 4096;
 
-/// The options, or what else stands in the call, and the keys of parameter files that they stand for, in the order in
-/// which they are looked at.
+/// The options, and the argument PROBLEM, with the keys of parameter files that they set, in the order in which they
+/// are checked.
 static SETTINGS: [(&str, Key); 9] = [
     ("PROBLEM", Key::ProblemFile),
     ("--initial-tour", Key::InitialTourFile),
@@ -25,8 +26,8 @@ static SETTINGS: [(&str, Key); 9] = [
     ("--or-segment", Key::OrSegment),
 ];
 
-/// The parameters that options ask for. Files are opened by the names that the options have, in which a `$` is nothing
-/// special; so the parameters do not have these names, but say whether there is a tour to begin with.
+/// The parameters that options request. Files are opened by the names in the options, in which a `$` has no special
+/// meaning. So the parameters do not contain these names, but only whether there is an initial tour.
 ///
 /// # Errors
 /// The exit status, after a message.
@@ -39,7 +40,7 @@ pub fn params_of(rt: &HostRuntime, options: &SearchOptions<'_>) -> Result<Params
     }
 }
 
-/// Sets the keys that options stand for.
+/// Sets the keys of all options.
 fn set_keys(
     rt: &HostRuntime,
     builder: &mut ParamsBuilder,
@@ -69,7 +70,7 @@ fn value_of<'a>(options: &SearchOptions<'a>, key: Key) -> Option<&'a str> {
     }
 }
 
-/// Sets the key that an option stands for, or refuses the option's value.
+/// Sets the key of an option, or rejects its value.
 fn set_key(
     rt: &HostRuntime,
     builder: &mut ParamsBuilder,
@@ -84,10 +85,9 @@ fn set_key(
     }
 }
 
-/// Whether a plain file, which is opened once more for it, begins with a key of parameter files.
+/// Whether a regular file begins with a key of parameter files. It is opened for this alone.
 pub fn is_parameter_file(rt: &HostRuntime, name: &str) -> bool {
-    let path = if name == STANDARD { "/dev/stdin" } else { name };
-    let Ok(mut file) = File::open(rt, path) else {
+    let Ok(mut file) = File::open(rt, path_of(name)) else {
         return false;
     };
     let mut head = [0; HEAD];
