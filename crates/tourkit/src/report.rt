@@ -1,9 +1,9 @@
 //! Messages on standard error, and exit statuses.
 use crate::search::Search;
 use crate::shown::shown_name;
-use std::io;
+use std::io::IsTerminal;
 use std::process::ExitCode;
-use tk_command_line::Refusal;
+use tk_command_line::{Refusal, STANDARD};
 use tk_engines::Fault;
 use tk_params::{ParamFault, ParamKind};
 use tk_tour::TourFault;
@@ -155,22 +155,57 @@ pub fn stopped_by_claim(
 
 /// Reports the fault of a text.
 pub fn text_fault(rt: &HostRuntime, file: &str, fault: &TextFault) -> ExitCode {
-    let file = shown_name(rt, file);
-    let _ = eprintln!(rt; "tourkit: {file}:{fault}");
-    ExitCode::from(match fault.kind {
-        TextKind::Read | TextKind::NoMemory => SYSTEM,
-        _ => USAGE,
-    })
+    let shown = shown_name(rt, file);
+    let _ = eprintln!(rt; "tourkit: {shown}:{fault}");
+    match fault.kind {
+        TextKind::Read | TextKind::NoMemory => ExitCode::from(SYSTEM),
+        _ => with_explanation(rt, file),
+    }
 }
 
 /// Reports the fault of a parameter file.
 pub fn param_fault(rt: &HostRuntime, file: &str, fault: &ParamFault) -> ExitCode {
-    let file = shown_name(rt, file);
-    let _ = eprintln!(rt; "tourkit: {file}:{fault}");
-    ExitCode::from(match fault.kind {
-        ParamKind::Read | ParamKind::NoMemory => SYSTEM,
-        _ => USAGE,
-    })
+    let shown = shown_name(rt, file);
+    let _ = eprintln!(rt; "tourkit: {shown}:{fault}");
+    match fault.kind {
+        ParamKind::Read | ParamKind::NoMemory => ExitCode::from(SYSTEM),
+        _ => with_explanation(rt, file),
+    }
+}
+
+/// Rejects a file after its fault has been reported, on a terminal with a tip that names `explain`. Standard input
+/// cannot be read again.
+fn with_explanation(rt: &HostRuntime, file: &str) -> ExitCode {
+    if file != STANDARD && rt.stderr().is_terminal() {
+        let file = shown_name(rt, file);
+        let _ = eprintln!(rt;
+            "tourkit: tip: 'tourkit explain {file}' describes the fault and how to fix it"
+        );
+    }
+    ExitCode::from(USAGE)
+}
+
+/// Reports the fault of a problem file that was read as a parameter file, on a terminal with a tip that names the
+/// option for a search.
+pub fn problem_for_parameters(rt: &HostRuntime, file: &str, fault: &ParamFault) -> ExitCode {
+    let shown = shown_name(rt, file);
+    let _ = eprintln!(rt; "tourkit: {shown}:{fault}");
+    if rt.stderr().is_terminal() {
+        let (stem, ending) = output_for(file);
+        let stem = shown_name(rt, stem);
+        let _ = eprintln!(rt;
+            "tourkit: tip: this is a problem file; 'tourkit solve {shown} -o {stem}{ending}' searches for a solution"
+        );
+    }
+    ExitCode::from(USAGE)
+}
+
+/// The name of an output file for a problem: the name of the problem file without its extension, and an extension.
+fn output_for(problem: &str) -> (&str, &'static str) {
+    match problem.strip_suffix(".vrp") {
+        Some(stem) => (stem, ".sol"),
+        None => (problem.strip_suffix(".tsp").unwrap_or(problem), ".tour"),
+    }
 }
 
 /// Reports that the output could not be written.

@@ -1,6 +1,6 @@
 //! The subcommand `solve`.
 use crate::answer::{Answer, Unprinted};
-use crate::commands::solve_options::{is_parameter_file, params_of};
+use crate::commands::solve_options::{is_parameter_file, is_problem_file, params_of};
 use crate::file_id::FileId;
 use crate::input::open;
 use crate::output::save;
@@ -37,6 +37,9 @@ fn solve_parameters(rt: &HostRuntime, file: &str, shown: Shown) -> ExitCode {
     let parameters_id = parameters.id(rt);
     match read_params(rt.alloc(), &mut FromRead::new(parameters)) {
         Ok(params) => solve(rt, &Search::by_keys(file, &params), parameters_id, shown),
+        Err(fault) if parameters_id.is_some() && is_problem_file(rt, file) => {
+            report::problem_for_parameters(rt, file, &fault)
+        }
         Err(fault) => report::param_fault(rt, file, &fault),
     }
 }

@@ -6,10 +6,10 @@ use std::fs::File;
 use std::io::Read;
 use std::process::ExitCode;
 use tk_command_line::SearchOptions;
-use tk_diagnosis::begins_with_key;
+use tk_diagnosis::{Kind, begins_with_key, kind_of};
 use tk_params::{Key, ParamKind, Params, ParamsBuilder};
 
-/// The number of bytes that are read to decide whether a file is a parameter file.
+/// The number of bytes that are read to decide whether a file is a parameter file or a problem file.
 const HEAD: usize = 4096;
 
 /// The options, and the argument PROBLEM, with the keys of parameter files that they set, in the order in which they
@@ -85,14 +85,25 @@ fn set_key(
     }
 }
 
-/// Whether a regular file begins with a key of parameter files. It is opened for this alone.
+/// Whether a regular file begins with a key of parameter files.
 pub fn is_parameter_file(rt: &HostRuntime, name: &str) -> bool {
-    let Ok(mut file) = File::open(rt, path_of(name)) else {
-        return false;
-    };
     let mut head = [0; HEAD];
-    match file.read(&mut head) {
-        Ok(count) => begins_with_key(head.get(..count).unwrap_or(&[])),
-        Err(_) => false,
+    let count = read_head(rt, name, &mut head);
+    begins_with_key(head.get(..count).unwrap_or(&[]))
+}
+
+/// Whether the first lines of a regular file are those of a problem.
+pub fn is_problem_file(rt: &HostRuntime, name: &str) -> bool {
+    let mut head = [0; HEAD];
+    let count = read_head(rt, name, &mut head);
+    kind_of(head.get(..count).unwrap_or(&[]), ".par") == Kind::Problem
+}
+
+/// Reads the first bytes of a regular file, which is opened for this alone. Returns their number; 0 if the file cannot
+/// be read.
+fn read_head(rt: &HostRuntime, name: &str, head: &mut [u8; HEAD]) -> usize {
+    match File::open(rt, path_of(name)) {
+        Ok(mut file) => file.read(head).unwrap_or(0),
+        Err(_) => 0,
     }
 }
