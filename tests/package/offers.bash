@@ -1,12 +1,6 @@
 # Prints the completions that bash offers at the end of a tourkit command line, one per line.
-# usage: bash --norc tests/package/offers.bash FILE LINE        (FILE: the completion script, or - for the one that bash-completion finds)
-# shellcheck source=/dev/null
-if [ "$1" = - ]; then
-    . /usr/share/bash-completion/bash_completion
-    _completion_loader tourkit
-else
-    . "$1"
-fi
+# usage: bash --norc tests/package/offers.bash COMMANDS LINE        (COMMANDS turn completions on)
+eval "$1"
 complete -p tourkit >/dev/null || exit
 read -ra COMP_WORDS <<<"${2//=/ = }"
 [[ $2 != *[\ =] ]] || COMP_WORDS+=("")

@@ -81,7 +81,7 @@ complete -F _tourkit tourkit
 
 /// The file `packaging/completions/_tourkit`.
 pub static ZSH: &[u8] = br#"#compdef tourkit
-# Completion for tourkit in zsh.
+# Completion for tourkit in zsh. It can be a file _tourkit in a directory of fpath, or be sourced after compinit.
 
 # Offers the arguments of explain: names of faults, and files.
 _tourkit_what() {
@@ -164,7 +164,12 @@ _tourkit() {
     esac
 }
 
-_tourkit "$@"
+# In fpath, this file is the body of _tourkit until its first call.
+if [[ $funcstack[1] = _tourkit ]]; then
+    _tourkit "$@"
+else
+    compdef _tourkit tourkit
+fi
 "#;
 
 /// The file `packaging/completions/tourkit.fish`.
