@@ -10,10 +10,7 @@ enum Value {
     Nothing,
     Number(u64),
     Integer(i64),
-    Keyword(Keyword),
-    Key(Key),
-    /// The sentence's text.
-    Text,
+    Text(&'static str),
     /// The sentence's word.
     Word,
 }
@@ -21,14 +18,12 @@ enum Value {
 /// Maximum number of values of a sentence.
 const VALUES: usize = 6;
 
-/// A sentence with values, which replace its `{}` in order. At most one of them is a text, and at most one is a word of
-/// the file.
+/// A sentence with values, which replace its `{}` in order. At most one of them is a word of the file.
 #[derive(Clone, Copy)]
 pub struct Sentence<'a> {
     form: &'static str,
     values: [Value; VALUES],
     count: usize,
-    text: &'static str,
     word: &'a [u8],
 }
 
@@ -39,7 +34,6 @@ impl<'a> Sentence<'a> {
             form,
             values: [Value::Nothing; VALUES],
             count: 0,
-            text: "",
             word: b"",
         }
     }
@@ -94,19 +88,17 @@ impl<'a> Sentence<'a> {
 
     /// The sentence with a keyword as its next value.
     pub fn keyword(self, word: Keyword) -> Sentence<'a> {
-        self.with(Value::Keyword(word))
+        self.with(Value::Text(word.word()))
     }
 
     /// The sentence with a key of parameter files as its next value.
     pub fn key(self, key: Key) -> Sentence<'a> {
-        self.with(Value::Key(key))
+        self.with(Value::Text(key.word()))
     }
 
-    /// The sentence with its text as its next value.
+    /// The sentence with a fixed text as its next value.
     pub fn text(self, text: &'static str) -> Sentence<'a> {
-        let mut sentence = self.with(Value::Text);
-        sentence.text = text;
-        sentence
+        self.with(Value::Text(text))
     }
 
     /// The sentence with its word as its next value.
@@ -122,9 +114,7 @@ impl<'a> Sentence<'a> {
             Value::Nothing => Ok(()),
             Value::Number(number) => write!(f, "{number}"),
             Value::Integer(number) => write!(f, "{number}"),
-            Value::Keyword(word) => write!(f, "{word}"),
-            Value::Key(key) => write!(f, "{key}"),
-            Value::Text => f.write_str(self.text),
+            Value::Text(text) => f.write_str(text),
             Value::Word => {
                 let word = shown_word(self.word);
                 write!(f, "{word}")

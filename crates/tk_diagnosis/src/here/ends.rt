@@ -46,14 +46,20 @@ fn size_of(spot: &Spot<'_>, section: Keyword) -> Option<Size> {
     })
 }
 
+/// The format that a word names, without regard to case.
+fn format_of(word: &[u8]) -> Option<Format> {
+    for format in FORMATS.iter() {
+        if spelled(word, format.word().as_bytes()) {
+            return Some(*format);
+        }
+    }
+    None
+}
+
 /// The number of weights in the file's EDGE_WEIGHT_FORMAT; `None` if there is no such header, or the number is too
 /// large.
 fn weights_of(spot: &Spot<'_>, nodes: u64) -> Option<u64> {
-    let word = first_token(header(spot.text, Keyword::EdgeWeightFormat)?.bytes);
-    let format = FORMATS
-        .iter()
-        .copied()
-        .find(|format| spelled(word, format.word().as_bytes()));
+    let format = format_of(first_token(header(spot.text, Keyword::EdgeWeightFormat)?.bytes));
     let all = nodes.checked_mul(nodes)?;
     let below = all.checked_sub(nodes)? / 2;
     match format {
