@@ -1,4 +1,6 @@
 pub mod Digits
+pub mod Exponents
+pub mod Integers
 pub mod MinusOne
 pub mod Naturals
 pub mod Numbers

@@ -119,6 +119,19 @@ fn small(bytes: &[u8]) -> Option<usize>
     Some(natural(bytes)? as usize)
 }
 
+/// The powers of ten by which an exponent multiplies and divides: an optional sign and 1 to 3 digits. `None` for other
+/// bytes.
+fn powers(bytes: &[u8]) -> Option<(usize, usize)>
+    ensures value { result ≡ Decimal.powers bytes.now }
+    ensures bound { IfSome result (λ e. (e.0 < 10 ^ 18) × (e.1 < 10 ^ 18)) }
+{
+    match bytes {
+        [b'-', digits @ ..] => Some((0, small(digits)?)),
+        [b'+', digits @ ..] => Some((small(digits)?, 0)),
+        _ => Some((small(bytes)?, 0)),
+    }
+}
+
 /// The powers of ten by which an optional exponent multiplies and divides; `None` for other bytes.
 fn exponent(bytes: &[u8]) -> Option<(usize, usize)>
     ensures value { result ≡ Decimal.exponent bytes.now }
@@ -126,9 +139,7 @@ fn exponent(bytes: &[u8]) -> Option<(usize, usize)>
 {
     match bytes {
         [] => Some((0, 0)),
-        [b'e' | b'E', b'-', digits @ ..] => Some((0, small(digits)?)),
-        [b'e' | b'E', b'+', digits @ ..] => Some((small(digits)?, 0)),
-        [b'e' | b'E', digits @ ..] => Some((small(digits)?, 0)),
+        [b'e' | b'E', signed @ ..] => powers(signed),
         _ => None,
     }
 }

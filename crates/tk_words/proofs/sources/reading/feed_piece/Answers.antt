@@ -1,7 +1,14 @@
-use Rattle.std.proofs.Common.{◌≡◌, ◌+◌, ◌≤◌, ◌++◌, length, take, arith, subst}
+use Rattle.std.proofs.Common.{◌≡◌, ◌+◌, ◌≤◌, ◌++◌, Bool, true, false, length, take, arith, subst, Result, Ok, Err}
 use Rattle.std.proofs.lemmas.Result.{err_from_is_err_and}
 use Rattle.tk_words.proofs.Driving.{part_size, taken_on, decided_within, told_within, too_long_at}
 use Rattle.tk_words.proofs.sources.reading.feed_piece.Goals as goal
+
+-- a text that is complete or has a fault is not one that goes on
+ended : {E : Type 0} → ◌≡◌ {A = Result Bool E} (Ok true) (Ok false) → ⊥
+ended e = cc
+
+failed : {E : Type 0} (r : Result Bool E) (f : E) → r ≡ Err f → r ≡ Ok false → ⊥
+failed r f is e = cc
 
 pub returns-in_err-feed-clause-taken : goal.returns-in_err-feed-clause-taken
 returns-in_err-feed-clause-taken g c = λ before fed len.
@@ -92,3 +99,19 @@ returns-in-Taken-2-clause-taken g c = λ before fed len.
     (omega (arith, c.min-end.ensures, c.if-end-piece.false))
     (omega (arith, len, c.min-end.ensures, c.if-end-piece.false, c.requires.within, c.requires.limit.0))
     taken.0 taken.1 (g.met.P.TextReader.waits _ _ taken.2))
+
+pub returns-in_err-feed-clause-room : goal.returns-in_err-feed-clause-room
+returns-in_err-feed-clause-room g c =
+    let p = err_from_is_err_and c.from_residual.result c.from_residual.ensures.1 in
+    λ on. absurd (failed c.from_residual.result p.0 p.1 on)
+
+pub returns-in-Done-clause-room : goal.returns-in-Done-clause-room
+returns-in-Done-clause-room g c = λ on. absurd (ended on)
+
+pub returns-in_err-feed-2-clause-room : goal.returns-in_err-feed-2-clause-room
+returns-in_err-feed-2-clause-room g c =
+    let p = err_from_is_err_and c.from_residual-in_err-feed-2.result c.from_residual-in_err-feed-2.ensures.1 in
+    λ on. absurd (failed c.from_residual-in_err-feed-2.result p.0 p.1 on)
+
+pub returns-in-Done-2-clause-room : goal.returns-in-Done-2-clause-room
+returns-in-Done-2-clause-room g c = λ on. absurd (ended on)

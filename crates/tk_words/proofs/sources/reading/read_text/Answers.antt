@@ -1,6 +1,7 @@
-use Rattle.std.proofs.Common.{◌≡◌, ◌≤◌, ◌++◌, [], take, length, Ok, Err, arith, rules}
+use Rattle.std.proofs.Common.{◌≡◌, ◌≤◌, ◌++◌, [], take, length, Ok, Err, refl, ap, ◌∙◌, arith, rules}
 use Rattle.std.specs.Io.KnownBytes.{Consumes, IsAtEnd}
-use Rattle.std.proofs.lemmas.List.{length-take}
+use Rattle.std.proofs.lemmas.List.{length-append, length-take}
+use Rattle.std.proofs.KnownBytes.{Consumes-nil, Consumes-trans}
 use Rattle.std.proofs.lemmas.Result.{err_from_is_err_and}
 use Rattle.tk_words.specs.Texts.{Answers, WantMore}
 use Rattle.tk_words.specs.declared.sources.reading.TheConstants.{BUFFER_SIZE}
@@ -50,7 +51,8 @@ returns-then-n-eq0 g c =
     let at_end : IsAtEnd (left c.read.new.self) = c.in-Ok.ensures.bytes.1 c.if-n-eq0.true (omega arith) in
     let far = where_read texts i.0 want (left c.args.source.now) (left c.loop-n.source) (left c.read.new.self)
     [] (omega arith) i.3 none in
-    let whole : g.R.Source.broken c.read.new.self ≡ g.R.Source.broken c.args.source.now = search rules in
+    let whole : g.R.Source.broken c.read.new.self ≡ g.R.Source.broken c.args.source.now =
+    c.in-Ok.ensures.ok ∙ c.loop-n.invariant.broken in
     record {
       reads = ended_read g.R.Source texts g.P.TextReader.view c.args.source.now c.read.new.self whole i.0
           c.finish.result want.within (c.finish.ensures i.0 i.1) far
@@ -70,7 +72,8 @@ returns-in_err-feed_piece g c =
     piece few i.3 c.in-Ok.ensures.bytes.0 in
     let p = err_from_is_err_and c.from_residual.result c.from_residual.ensures.1 in
     let f = c.in_err-feed_piece.field-0.0 in
-    let whole : g.R.Source.broken c.read.new.self ≡ g.R.Source.broken c.args.source.now = search rules in
+    let whole : g.R.Source.broken c.read.new.self ≡ g.R.Source.broken c.args.source.now =
+    c.in-Ok.ensures.ok ∙ c.loop-n.invariant.broken in
     record {
       reads = rw (p.1, p.2)
           (fault_read g.R.Source texts g.P.TextReader.view c.args.source.now c.read.new.self whole
@@ -89,11 +92,50 @@ returns-then-branch g c =
     let want = wants g (goal.at.returns-then-branch g c).After-read in
     let few : length piece ≤ BUFFER_SIZE = omega (arith, length-take c.in-Ok.n c.read.new.buf) in
     let told = rw c.if-branch.true at (c.in_ok-feed_piece.ensures.taken i.0 i.1 i.2) in
-    let whole : g.R.Source.broken c.read.new.self ≡ g.R.Source.broken c.args.source.now = search rules in
+    let whole : g.R.Source.broken c.read.new.self ≡ g.R.Source.broken c.args.source.now =
+    c.in-Ok.ensures.ok ∙ c.loop-n.invariant.broken in
     record {
       reads = value_read g.R.Source texts g.P.TextReader.view c.args.source.now c.read.new.self whole c.value.result
           (rw c.value.ensures (where_decided texts i.0 want (Ok (g.P.TextReader.held c.feed_piece.new.reader))
           (left c.args.source.now) (left c.loop-n.source) (left c.read.new.self) piece few i.3
           c.in-Ok.ensures.bytes.0 told.0))
           (rw c.value.ensures ((i.0 ++ piece) ++ [], told.0 []));
+    }
+
+pub loop-n-init : goal.loop-n-init
+loop-n-init g c = record {
+  room = omega arith;
+  broken = refl;
+  fed = ([], c.requires, refl, Consumes-nil (g.R.Source.left c.args.source.now));
+}
+
+pub finish-requires : goal.finish-requires
+finish-requires g c = (c.loop-n.invariant.fed.0, c.loop-n.invariant.fed.1)
+
+pub feed_piece-requires-clause-known : goal.feed_piece-requires-clause-known
+feed_piece-requires-clause-known g c =
+    (c.loop-n.invariant.fed.0, c.loop-n.invariant.fed.1, c.loop-n.invariant.fed.2)
+
+pub value-requires : goal.value-requires
+value-requires g c =
+    let i = c.loop-n.invariant.fed in
+    (rw c.if-branch.true at (c.in_ok-feed_piece.ensures.taken i.0 i.1 i.2)).1
+
+pub loop-n-preserved : goal.loop-n-preserved
+loop-n-preserved g c =
+    let i = c.loop-n.invariant.fed in
+    let left = g.R.Source.left in
+    let piece = take c.in-Ok.n c.read.new.buf in
+    let on = rw c.if-branch.false at (c.in_ok-feed_piece.ensures.taken i.0 i.1 i.2) in
+    let count : length piece ≡ c.in-Ok.n = omega (arith, length-take c.in-Ok.n c.read.new.buf, c.in-Ok.ensures.bound) in
+    record {
+      room = omega (arith, count, c.in_ok-feed_piece.ensures.room (ap Ok c.if-branch.false));
+      broken = c.in-Ok.ensures.ok ∙ c.loop-n.invariant.broken;
+      fed = (
+        i.0 ++ piece,
+        on.0,
+        omega (arith, count, length-append i.0 piece, i.2),
+        Consumes-trans (left c.args.source.now) (left c.loop-n.source) (left c.read.new.self) i.0 piece i.3
+            c.in-Ok.ensures.bytes.0,
+      );
     }
