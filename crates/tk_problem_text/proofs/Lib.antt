@@ -1,3 +1,4 @@
+pub mod Finding
 pub mod HeaderRecords
 pub mod KeptHeaders
 pub mod PartEnds

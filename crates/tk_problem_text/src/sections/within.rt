@@ -4,7 +4,7 @@ ghost use Rattle.tk_words.specs.Lex as Lex;
 ghost use Rattle.tk_lines.specs.Pieces.{first_at, Fault};
 ghost use Rattle.tk_words.specs.Entry.{number_tests};
 
-use tk_words::{Lexeme, TextKind};
+use tk_words::{Lexeme, TextKind, limited};
 
 /// An integer from `low` to `high`. `BadNumber` if the token is not an integer, `OutOfLimit` if it is another number.
 pub fn number_of(token: &Lexeme, low: u32, high: u32) -> Result<u32, TextKind>
@@ -14,9 +14,11 @@ pub fn number_of(token: &Lexeme, low: u32, high: u32) -> Result<u32, TextKind>
     ensures err { (line : ℕ)
         → IfErr result (λ k. first_at line (number_tests low high token.now) ≡ Some (Fault line k)) }
 {
-    match token.integer() {
-        None => Err(TextKind::BadNumber),
-        Some(value) if value < low as i64 || value > high as i64 => Err(TextKind::OutOfLimit),
-        Some(value) => Ok(value as u32),
+    let Some(number) = token.integer() else {
+        return Err(TextKind::BadNumber);
+    };
+    match limited(number, low, high) {
+        Some(number) => Ok(number),
+        None => Err(TextKind::OutOfLimit),
     }
 }

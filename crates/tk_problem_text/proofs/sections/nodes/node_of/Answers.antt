@@ -1,4 +1,4 @@
-use Rattle.std.proofs.Common.{rules, sym, refl, ◌≡◌, ◌<◌, ◌-◌, ℕ, ℤ, pos, negsuc, Some, true}
+use Rattle.std.proofs.Common.{rules, sym, refl, ◌≡◌, ◌<◌, ℕ, ℤ, pos, negsuc, Some, true}
 use Rattle.std.proofs.Common.{false, w64, SFits, to_z, of_z}
 use Rattle.std.proofs.lemmas.Bool.{ltb-true, lt-leb, and_left, and_right}
 use Rattle.std.proofs.lemmas.Int.{to_z-of_z}
