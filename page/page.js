@@ -249,7 +249,7 @@ function roleOf(city) {
 function placeOnLine(city) {
     const k = pathOf[city];
     if (k < 0) return [];
-    if (table === null) return [`place ${stopOf[city] + 1} of ${count} in the tour`];
+    if (table === null) return [`position ${stopOf[city] + 1} of ${count} in the tour`];
     return [`route ${rows[k].name}, stop ${stopOf[city]} of ${paths[k].length - 1}`];
 }
 
@@ -420,7 +420,7 @@ byId('tools').addEventListener('click', event => {
 });
 asked.addEventListener('change', () => {
     const city = Number(asked.value);
-    if (Number.isInteger(city) && city >= 1 && city <= count) goTo(city); else status.textContent = `The cities are 1 to ${count}.`;
+    if (Number.isInteger(city) && city >= 1 && city <= count) goTo(city); else status.textContent = `Cities are numbered 1 to ${count}.`;
 });
 
 // ---- pointers: a mouse, a pen, or fingers

@@ -7,14 +7,14 @@ complete -c tourkit -n __fish_use_subcommand -f -a check -d 'Checks a tour and p
 complete -c tourkit -n __fish_use_subcommand -f -a checksol -d 'Checks the routes of a CVRP and their cost'
 complete -c tourkit -n __fish_use_subcommand -f -a explain -d 'Explains a fault, or what is wrong with a file'
 complete -c tourkit -n __fish_use_subcommand -f -a matrix -d 'Prints a problem as a TSP with explicit weights'
-complete -c tourkit -n __fish_use_subcommand -f -a near -d 'Prints the nearest other cities of each city'
+complete -c tourkit -n __fish_use_subcommand -f -a near -d 'Prints the nearest neighbours of each city'
 complete -c tourkit -n __fish_use_subcommand -f -a plot -d 'Draws a problem, and a tour or routes of it, as SVG or HTML'
 complete -c tourkit -n __fish_use_subcommand -f -a solve -d 'Searches for a short tour or for short routes'
 complete -c tourkit -n __fish_use_subcommand -f -a help -d 'Print this message or the help of the given subcommand(s)'
 
-complete -c tourkit -n '__fish_seen_subcommand_from check' -l json -d 'print one JSON object in place of lines'
+complete -c tourkit -n '__fish_seen_subcommand_from check' -l json -d 'print one JSON object instead of text'
 
-complete -c tourkit -n '__fish_seen_subcommand_from checksol' -l json -d 'print one JSON object in place of lines'
+complete -c tourkit -n '__fish_seen_subcommand_from checksol' -l json -d 'print one JSON object instead of text'
 
 complete -c tourkit -n '__fish_seen_subcommand_from explain; and __fish_is_nth_token 2' -d fault \
     -a 'UnknownKeyword Repeated Missing Unsupported BadNumber OutOfLimit BadNode NotSymmetric Truncated TrailingData
@@ -25,27 +25,27 @@ complete -c tourkit -n '__fish_seen_subcommand_from explain; and __fish_is_nth_t
 complete -c tourkit -n '__fish_seen_subcommand_from matrix; and __fish_is_nth_token 3' -f \
     -a 'FULL_MATRIX UPPER_ROW LOWER_ROW UPPER_DIAG_ROW LOWER_DIAG_ROW UPPER_COL LOWER_COL UPPER_DIAG_COL LOWER_DIAG_COL'
 
-complete -c tourkit -n '__fish_seen_subcommand_from near' -s k -x -d 'how many cities a list has, 1 to 100'
+complete -c tourkit -n '__fish_seen_subcommand_from near' -s k -x -d 'length of each list, 1 to 100'
 
-complete -c tourkit -n '__fish_seen_subcommand_from plot' -l html -d 'print a page of HTML in place of a picture'
+complete -c tourkit -n '__fish_seen_subcommand_from plot' -l html -d 'print an HTML page instead of an SVG picture'
 
 complete -c tourkit -n '__fish_seen_subcommand_from solve' -s o -l output -r -F \
-    -d 'where the best tour is written, or the routes of a CVRP'
-complete -c tourkit -n '__fish_seen_subcommand_from solve' -l trials -x -d 'how many trials a run has, 1 to 1,000,000'
+    -d 'write the best tour, or the routes of a CVRP, to FILE'
+complete -c tourkit -n '__fish_seen_subcommand_from solve' -l trials -x -d 'trials per run, 1 to 1,000,000'
 complete -c tourkit -n '__fish_seen_subcommand_from solve' -l candidates -x \
-    -d 'how many near cities of each city are tried, 1 to 100'
-complete -c tourkit -n '__fish_seen_subcommand_from solve' -l runs -x -d 'how many runs there are, 1 to 10,000'
-complete -c tourkit -n '__fish_seen_subcommand_from solve' -l seed -x -d 'what the random numbers begin with'
+    -d 'length of the near lists, 1 to 100'
+complete -c tourkit -n '__fish_seen_subcommand_from solve' -l runs -x -d 'number of runs, 1 to 10,000'
+complete -c tourkit -n '__fish_seen_subcommand_from solve' -l seed -x -d 'seed of the random numbers'
 complete -c tourkit -n '__fish_seen_subcommand_from solve' -l or-segment -x -a '1 2 3' \
-    -d 'the most cities that an Or-move moves, 1 to 3'
+    -d 'longest segment that an Or-opt move moves, 1 to 3'
 complete -c tourkit -n '__fish_seen_subcommand_from solve' -l construction -x -a 'nearest savings' \
-    -d 'how the tour is made that a run begins with'
+    -d 'how to construct the starting tours'
 complete -c tourkit -n '__fish_seen_subcommand_from solve' -l final-sweep \
-    -d 'go on with each trial until no city has an improving move'
+    -d 'continue each trial until no city has an improving move'
 complete -c tourkit -n '__fish_seen_subcommand_from solve' -l initial-tour -r -F \
-    -d 'the tour that each run begins with, or - for standard input (not for a CVRP)'
+    -d 'start every run from this tour, or - for standard input (TSP only)'
 complete -c tourkit -n '__fish_seen_subcommand_from solve' -l progress \
     -d 'write each run\'s line to standard error when the run ends'
-complete -c tourkit -n '__fish_seen_subcommand_from solve' -l json -d 'print one JSON object in place of lines'
+complete -c tourkit -n '__fish_seen_subcommand_from solve' -l json -d 'print one JSON object instead of text'
 
 complete -c tourkit -n '__fish_seen_subcommand_from help' -f -a 'check checksol explain matrix near plot solve help'

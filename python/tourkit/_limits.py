@@ -24,5 +24,5 @@ def within(name: str, number: SupportsIndex, least: int, most: int) -> int:
     """An integer argument, which must be within these limits."""
     found = operator.index(number)
     if not least <= found <= most:
-        raise ValueError(f"{name} is from {least:,} to {most:,}, and not {found:,}")
+        raise ValueError(f"{name} must be from {least:,} to {most:,}, not {found:,}")
     return found

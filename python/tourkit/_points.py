@@ -30,7 +30,7 @@ def units(coordinate: Any) -> int:
         except (ArithmeticError, ValueError):
             raise ValueError(f"not a coordinate: {coordinate!r}") from None
     if abs(found) > FARTHEST:
-        raise ValueError(f"a coordinate is from {-COORDINATE_LIMIT:,} to {COORDINATE_LIMIT:,}, and not {coordinate}")
+        raise ValueError(f"a coordinate must be from {-COORDINATE_LIMIT:,} to {COORDINATE_LIMIT:,}, not {coordinate}")
     return found
 
 
@@ -49,11 +49,11 @@ class Points:
 
     def __init__(self, points: Iterable[Sequence[Any]], kind: str) -> None:
         if kind not in KINDS:
-            raise ValueError(f"a kind of distances is one of {', '.join(KINDS)}, and not {kind!r}")
+            raise ValueError(f"the kind of distances must be one of {', '.join(KINDS)}, not {kind!r}")
         listed = points.tolist() if hasattr(points, "tolist") else points
         pairs = [(units(x), units(y)) for x, y in listed]
         if not 2 <= len(pairs) <= CITY_LIMIT:
-            raise ValueError(f"a problem has 2 to {CITY_LIMIT:,} cities, and not {len(pairs):,}")
+            raise ValueError(f"a problem must have 2 to {CITY_LIMIT:,} cities, not {len(pairs):,}")
         self.kind = kind
         self.size = len(pairs)
         self._xs = array("q", [x for x, _ in pairs]).tobytes()

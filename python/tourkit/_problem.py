@@ -87,7 +87,7 @@ class Problem:
         if demands is None and capacity is None:
             return problem
         if demands is None or capacity is None:
-            raise ValueError("a CVRP has both demands and a capacity")
+            raise ValueError("a CVRP needs both demands and a capacity")
         listed = list(demands)
         if len(listed) != cities.size:
             raise ValueError(f"{len(listed):,} demands for {cities.size:,} cities")
@@ -153,7 +153,7 @@ class Problem:
         get the message."""
         if answer.status == REFUSED:
             write_texts("tourkit_near", [self.source], (*self.source.words, 1), [LINE])
-            raise ValueError(f"{self!r} was refused")
+            raise ValueError(f"{self!r} was rejected")
         return answer
 
     def __repr__(self) -> str:

@@ -81,7 +81,7 @@ def listed_tour(tour: Any) -> Text:
 def construction_of(name: str) -> str:
     """The name of a construction, in capital letters."""
     if name.upper() not in CONSTRUCTIONS:
-        raise ValueError(f"construction is one of {' and '.join(CONSTRUCTIONS)}, and not {name!r}")
+        raise ValueError(f"construction must be one of {' and '.join(CONSTRUCTIONS)}, not {name!r}")
     return name.upper()
 
 

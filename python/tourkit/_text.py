@@ -42,5 +42,5 @@ def text_of(given: Any, what: str) -> Text:
     if isinstance(given, (str, os.PathLike)):
         return Text(read_file(given, what), what, os.fspath(given))
     if not is_text(given):
-        raise TypeError(f"a {what} is a file (str or os.PathLike) or a text (bytes), and not {type(given).__name__}")
+        raise TypeError(f"a {what} must be a file (str or os.PathLike) or a text (bytes), not {type(given).__name__}")
     return Text(frozen(given), what)

@@ -39,9 +39,9 @@ def read_matrix(matrix: Any) -> Tuple[int, array[int]]:
         except OverflowError:
             raise ValueError(f"row {size} has a distance that is not from 0 to {DISTANCE_LIMIT:,}") from None
     if not 2 <= size <= TABLE_LIMIT or len(numbers) != size * size:
-        raise ValueError(f"a matrix has as many columns as rows, 2 to {TABLE_LIMIT:,}")
+        raise ValueError(f"a matrix must have as many columns as rows, 2 to {TABLE_LIMIT:,}")
     if max(numbers) > DISTANCE_LIMIT:
-        raise ValueError(f"a distance is from 0 to {DISTANCE_LIMIT:,}, and not {max(numbers):,}")
+        raise ValueError(f"a distance must be from 0 to {DISTANCE_LIMIT:,}, not {max(numbers):,}")
     return size, numbers
 
 
@@ -58,7 +58,8 @@ class Weights:
             row, column = numbers[city * n : city * n + city], numbers[city : city * n : n]
             if row != column:
                 other = next(other for other in range(city) if row[other] != column[other])
-                raise ValueError(f"from city {other + 1} to city {city + 1} it is {column[other]}, and {row[other]} on the way back")
+                there, back = column[other], row[other]
+                raise ValueError(f"the matrix is not symmetric: {there} from city {other + 1} to city {city + 1}, but {back} back")
             lower.extend(row)
         self._lower = lower.tobytes()
 

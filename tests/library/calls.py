@@ -161,7 +161,7 @@ def try_limits():
 def try_arguments_out_of_their_limits():
     """An error about an argument names it."""
     for name, number in {"seed": -1, "trials": 0, "runs": 10_001, "candidates": 101, "or_segment": 4, "pieces": 0}.items():
-        assert error(ValueError, tourkit.solve, "tri.tsp", **{name: number}).startswith(f"{name} is from "), name
+        assert error(ValueError, tourkit.solve, "tri.tsp", **{name: number}).startswith(f"{name} must be from "), name
     error(ValueError, tourkit.solve, "tri.tsp", construction="GREEDY\nRUNS = 1")
     error(TypeError, tourkit.solve, "tri.tsp", trials=2.5)
     error(ValueError, tourkit.near, "tri.tsp", 0)
@@ -193,7 +193,7 @@ def try_matrices_in_any_order():
         error(ValueError, tourkit.Problem.from_matrix, empty)
     error(ValueError, tourkit.Problem.from_matrix, wide)
     one_way = view_by_columns(array.array("q", [0, 1, 2, 0]), 2)
-    assert error(ValueError, tourkit.Problem.from_matrix, one_way) == "from city 1 to city 2 it is 2, and 1 on the way back"
+    assert error(ValueError, tourkit.Problem.from_matrix, one_way) == "the matrix is not symmetric: 2 from city 1 to city 2, but 1 back"
 
 
 class View(ctypes.Structure):

@@ -15,7 +15,7 @@ from tourkit._solve import search
 from tourkit._text import Text
 
 # Messages about the command line, the files that the program opens and writes, or its two ways to search.
-OF_THE_PROGRAM = re.compile(r"^error: |cannot be opened|is the same file as|is the parameter file|options of a search")
+OF_THE_PROGRAM = re.compile(r"^error: |cannot be opened|is the same file as|is the parameter file|search options need")
 
 # The search options that take a value, and the keys of parameter files, by the arguments of `solve`.
 OPTIONS = {"trials": int, "runs": int, "seed": int, "candidates": int, "or_segment": int, "construction": str, "initial_tour": str}

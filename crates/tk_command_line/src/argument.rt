@@ -43,7 +43,7 @@ pub const PROBLEM: Argument = Argument {
 /// The option that requests one JSON object instead of text.
 pub const JSON: Argument = Argument {
     name: "json",
-    help: "print one JSON object in place of lines",
+    help: "print one JSON object instead of text",
     form: Form::Flag,
     values: ValueParser::Bool,
 };

@@ -12,7 +12,7 @@ const USAGE: &str = "tourkit <COMMAND>
 
 /// The text at the end of `--help`.
 const HELP: &str = "An invalid file is reported on standard error as FILE:LINE: NUMBER NAME.
-tourkit explain NUMBER says what a fault means, and tourkit explain FILE how to mend the file.
+Run tourkit explain NUMBER to see what a fault means, and tourkit explain FILE to see how to fix the file.
 
 Exit status:
   0  the command succeeded, or help was shown

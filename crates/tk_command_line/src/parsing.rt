@@ -14,10 +14,10 @@ use std::alloc::Global;
 const USAGE: u8 = 2;
 
 /// The message if both files are standard input.
-const TWICE_STANDARD: &str = "only one of the files can be standard input '-'";
+const TWICE_STANDARD: &str = "only one file can be '-' (standard input)";
 
 /// The message if standard input is named as the output file.
-const STANDARD_OUTPUT: &str = "the file of '--output' cannot be '-', which is standard input";
+const STANDARD_OUTPUT: &str = "'--output' cannot be '-', which means standard input";
 
 /// Why there is no request.
 pub enum Refusal {

@@ -74,7 +74,7 @@ fn push_owned(text: &mut String, subcommand: &Subcommand, word: &str) -> Result<
         if is_named(argument, word) {
             text.push_str("\n  tip: '")?;
             push_name(text, argument)?;
-            write!(text, "' is an option of '{}'", subcommand.name)?;
+            write!(text, "' is an option of 'tourkit {}'", subcommand.name)?;
         }
     }
     Ok(())
@@ -82,7 +82,7 @@ fn push_owned(text: &mut String, subcommand: &Subcommand, word: &str) -> Result<
 
 /// Adds the tip that lists the arguments of a subcommand.
 fn push_taken(text: &mut String, subcommand: &Subcommand) -> Result<(), AllocError> {
-    write!(text, "\n  tip: '{}' takes ", subcommand.name)?;
+    write!(text, "\n  tip: '{}' accepts ", subcommand.name)?;
     for (i, argument) in subcommand.arguments.iter().enumerate() {
         if i > 0 {
             text.push_str(", ")?;

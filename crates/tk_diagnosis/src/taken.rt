@@ -16,7 +16,7 @@ pub fn taken_for<'a>(spot: &Spot<'a>) -> Sentence<'a> {
         return in_solution(spot.line);
     }
     if is_after_end(spot) {
-        return Sentence::of("after EOF, and ignored");
+        return Sentence::of("ignored, since it comes after EOF");
     }
     if spot.kind == Kind::Parameters {
         in_parameters(spot.line)
@@ -57,7 +57,7 @@ fn in_text<'a>(spot: &Spot<'a>) -> Sentence<'a> {
 /// How a line without a keyword is read.
 fn among_numbers<'a>(spot: &Spot<'_>) -> Sentence<'a> {
     let Some(place) = place_of(spot.text, spot.number) else {
-        return Sentence::of("a line outside all sections");
+        return Sentence::of("a line outside any section");
     };
     numbers_of(spot.line, place)
 }
@@ -88,7 +88,7 @@ fn in_solution<'a>(line: &[u8]) -> Sentence<'a> {
     } else if spelled(word, b"COST") {
         "the cost"
     } else {
-        "a line that is ignored after the cost"
+        "ignored, since it comes after the cost"
     })
 }
 

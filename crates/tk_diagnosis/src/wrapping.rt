@@ -39,20 +39,20 @@ pub fn wrapping_of(text: &[u8], number: u64, line: &[u8]) -> Option<Wrapping> {
 pub fn wrapped<'a>(wrapping: Wrapping) -> Here<'a> {
     let (read, remedy) = match wrapping {
         Wrapping::Gzip => (
-            "a file that gzip has compressed",
+            "a file compressed by gzip",
             "Decompress it, as in zcat FILE.tsp.gz | tourkit check - TOUR.",
         ),
         Wrapping::Mark => (
-            "a byte order mark (the bytes ef bb bf), which an editor has put before the text",
-            "Save the file as UTF-8 without the mark, or cut it off: tail -c +4 FILE >NEW.",
+            "a byte order mark (the bytes ef bb bf) before the text",
+            "Save the file as UTF-8 without the mark, or remove it: tail -c +4 FILE >NEW.",
         ),
         Wrapping::Utf16 => (
             "a text in UTF-16",
             "Save the file as UTF-8 or ASCII: iconv -f UTF-16 -t UTF-8 FILE >NEW.",
         ),
         Wrapping::Binary => (
-            "bytes that are 0, which no such text has",
-            "Give the text file. An archive has to be unpacked, and a text in UTF-16 saved as UTF-8.",
+            "NUL bytes, which no such text contains",
+            "Give a text file. Unpack an archive first, and save a UTF-16 text as UTF-8.",
         ),
     };
     Here::advised("a text in ASCII or UTF-8", Sentence::of(read), remedy)

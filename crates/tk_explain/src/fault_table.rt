@@ -63,9 +63,9 @@ static REPEATED: FaultText = FaultText {
     number: "2",
     name: "Repeated",
     values: "",
-    when: "a header or section appears a second time (COMMENT may)",
-    causes: "two files in one, or a new line beside the old one",
-    remedy: "Keep the one that is right, and remove the other.",
+    when: "a header or section other than COMMENT is repeated",
+    causes: "two files joined into one, or a new line next to the old one",
+    remedy: "Keep the correct one, and remove the other.",
 };
 
 static MISSING: FaultText = FaultText {
@@ -74,8 +74,8 @@ static MISSING: FaultText = FaultText {
     name: "Missing",
     values: " KEYWORD",
     when: "a required header or section is missing",
-    causes: "a header that was left out, a section that stands before its headers, or a file that was cut off",
-    remedy: "Add the header or section. TYPE and DIMENSION stand before every section.",
+    causes: "a header that was left out, a section before its headers, or a file that was cut off",
+    remedy: "Add the header or section. TYPE and DIMENSION must come before every section.",
 };
 
 static UNSUPPORTED: FaultText = FaultText {
@@ -84,8 +84,8 @@ static UNSUPPORTED: FaultText = FaultText {
     name: "Unsupported",
     values: "",
     when: "a keyword or value of TSPLIB that tourkit does not support",
-    causes: "a tour in place of a problem, a problem of another type (ATSP), or other distances (GEO)",
-    remedy: "Give the files in the right order. Write other distances, if they are symmetric, as explicit weights.",
+    causes: "a tour instead of a problem, a problem of another type (ATSP), or other distances (GEO)",
+    remedy: "Check the order of the files on the command line. Write other symmetric distances as explicit weights.",
 };
 
 static BAD_NUMBER: FaultText = FaultText {
@@ -94,7 +94,7 @@ static BAD_NUMBER: FaultText = FaultText {
     name: "BadNumber",
     values: "",
     when: "something that should be a number is not",
-    causes: "a decimal comma, a unit, a fraction where an integer is wanted, or a column too many or too few",
+    causes: "a decimal comma, a unit, a fraction instead of an integer, or one column too many or too few",
     remedy: "Write an integer; coordinates may have a decimal point and an exponent, as in 12.5 or 1.25e1.",
 };
 
@@ -104,7 +104,7 @@ static OUT_OF_LIMIT: FaultText = FaultText {
     name: "OutOfLimit",
     values: "",
     when: "a number, size or count is outside its limits",
-    causes: "a negative number where none may be, a problem that is too large, or too small a unit",
+    causes: "a negative number where none is allowed, too large a problem, or too small a unit",
     remedy: "Use a number within its limits, or a smaller problem.",
 };
 
@@ -113,8 +113,8 @@ static BAD_NODE: FaultText = FaultText {
     number: "7",
     name: "BadNode",
     values: "",
-    when: "a node number is not in 1 to DIMENSION, or appears a second time",
-    causes: "nodes that are numbered from 0, a DIMENSION that is too small, or a line that is there twice",
+    when: "a node number is outside 1 to DIMENSION, or is repeated",
+    causes: "nodes numbered from 0, too small a DIMENSION, or a duplicate line",
     remedy: "Number the nodes from 1 to DIMENSION, each once.",
 };
 
@@ -134,8 +134,8 @@ static TRUNCATED: FaultText = FaultText {
     name: "Truncated",
     values: "",
     when: "a section ends before its last number",
-    causes: "a DIMENSION that is too large, a number or a line that is missing, or a file that was cut off",
-    remedy: "Make DIMENSION the number of nodes, or add what is missing.",
+    causes: "too large a DIMENSION, a missing number or line, or a file that was cut off",
+    remedy: "Set DIMENSION to the number of nodes, or add the missing data.",
 };
 
 static TRAILING_DATA: FaultText = FaultText {
@@ -143,9 +143,9 @@ static TRAILING_DATA: FaultText = FaultText {
     number: "10",
     name: "TrailingData",
     values: "",
-    when: "there is something where nothing may follow",
-    causes: "a DIMENSION that is too small, a number too many, or a comment without COMMENT",
-    remedy: "Make DIMENSION the number of nodes, or remove what is too much.",
+    when: "there is extra data where nothing may follow",
+    causes: "too small a DIMENSION, an extra number, or a comment without COMMENT",
+    remedy: "Set DIMENSION to the number of nodes, or remove the extra data.",
 };
 
 static BAD_DEPOT: FaultText = FaultText {
@@ -154,7 +154,7 @@ static BAD_DEPOT: FaultText = FaultText {
     name: "BadDepot",
     values: "",
     when: "the depot section does not name exactly one node, or that node has a demand",
-    causes: "several depots, coordinates in place of a node number, or a depot with a demand",
+    causes: "several depots, coordinates instead of a node number, or a depot with a demand",
     remedy: "Name one node in DEPOT_SECTION, then -1, and give it the demand 0.",
 };
 
@@ -174,8 +174,8 @@ static TOO_LONG: FaultText = FaultText {
     name: "TooLong",
     values: "",
     when: "a file, line, word, number or name exceeds its maximum length",
-    causes: "a missing line feed or blank, or a file that is not a text",
-    remedy: "Shorten it, or put a line feed or a blank where it is missing.",
+    causes: "a missing line break or blank, or a file that is not text",
+    remedy: "Shorten it, or insert the missing line break or blank.",
 };
 
 static READ: FaultText = FaultText {
@@ -184,8 +184,8 @@ static READ: FaultText = FaultText {
     name: "Read",
     values: "",
     when: "the file could not be read to its end",
-    causes: "a directory in place of a file, or a disk or network that failed",
-    remedy: "Name a file in place of a directory, or copy the file anew.",
+    causes: "a directory instead of a file, or a disk or network failure",
+    remedy: "Give a file instead of a directory, or copy the file again.",
 };
 
 static NO_MEMORY: FaultText = FaultText {
@@ -194,8 +194,8 @@ static NO_MEMORY: FaultText = FaultText {
     name: "NoMemory",
     values: "",
     when: "out of memory",
-    causes: "a limit on memory, or a large problem on a small machine",
-    remedy: "Raise the limit, end other programs, or use a smaller problem.",
+    causes: "a memory limit, or a large problem on a small machine",
+    remedy: "Raise the memory limit, close other programs, or use a smaller problem.",
 };
 
 static UNKNOWN_KEY: FaultText = FaultText {
@@ -204,8 +204,8 @@ static UNKNOWN_KEY: FaultText = FaultText {
     name: "UnknownKey",
     values: "",
     when: "a line does not start with a key of tourkit",
-    causes: "a key of LKH that tourkit does not have, a misspelt key, or a file of another kind",
-    remedy: "Correct the key, or put # before the line. For a file of LKH, use examples/lkh-to-tourkit.",
+    causes: "an LKH key that tourkit does not have, a misspelt key, or a file of another kind",
+    remedy: "Correct the key, or put # before the line. For an LKH file, use examples/lkh-to-tourkit.",
 };
 
 static REPEATED_KEY: FaultText = FaultText {
@@ -213,9 +213,9 @@ static REPEATED_KEY: FaultText = FaultText {
     number: "2",
     name: "RepeatedKey",
     values: "",
-    when: "a key appears a second time (COMMENT may)",
-    causes: "a new line beside the old one",
-    remedy: "Keep the line that is right, and remove the other.",
+    when: "a key other than COMMENT is repeated",
+    causes: "a new line next to the old one",
+    remedy: "Keep the correct line, and remove the other.",
 };
 
 static BAD_VALUE: FaultText = FaultText {
@@ -223,9 +223,9 @@ static BAD_VALUE: FaultText = FaultText {
     number: "3",
     name: "BadValue",
     values: "",
-    when: "a file name is empty or not UTF-8, or the key may not have the value",
+    when: "a file name is empty or not UTF-8, or the value is not one that the key allows",
     causes: "a number outside its limits, a fraction, or a comment after the value",
-    remedy: "Write a value that the key may have, and nothing after it.",
+    remedy: "Write a value that the key allows, with nothing after it.",
 };
 
 static MISSING_PROBLEM: FaultText = FaultText {
@@ -235,7 +235,7 @@ static MISSING_PROBLEM: FaultText = FaultText {
     values: "",
     when: "there is no PROBLEM_FILE",
     causes: "an empty file, or EOF before the key",
-    remedy: "Add a line PROBLEM_FILE = NAME, with the name of the problem's file.",
+    remedy: "Add a line PROBLEM_FILE = NAME, with the name of the problem file.",
 };
 
 static DOLLAR_IN_NAME: FaultText = FaultText {
@@ -244,8 +244,8 @@ static DOLLAR_IN_NAME: FaultText = FaultText {
     name: "DollarInName",
     values: "",
     when: "there is a $ in a file name",
-    causes: "a file of LKH, which puts the length of the tour in place of $",
-    remedy: "Write the name without $. For a file of LKH, use examples/lkh-to-tourkit.",
+    causes: "an LKH file, in which $ is replaced by the length of the tour",
+    remedy: "Write the name without $. For an LKH file, use examples/lkh-to-tourkit.",
 };
 
 static PARAMETERS_TOO_LONG: FaultText = FaultText {
@@ -254,8 +254,8 @@ static PARAMETERS_TOO_LONG: FaultText = FaultText {
     name: "TooLong",
     values: "",
     when: "a line of more than 4,096 bytes, a key of more than 64, or a file of more than 1,048,576",
-    causes: "a missing line feed, or a file of another kind",
-    remedy: "Shorten the line, or give the parameter file.",
+    causes: "a missing line break, or a file of another kind",
+    remedy: "Shorten the line, or check that this is the parameter file.",
 };
 
 static PARAMETERS_READ: FaultText = FaultText {
@@ -264,8 +264,8 @@ static PARAMETERS_READ: FaultText = FaultText {
     name: "Read",
     values: "",
     when: "the file could not be read to its end",
-    causes: "a directory in place of a file, or a disk or network that failed",
-    remedy: "Name a file in place of a directory, or copy the file anew.",
+    causes: "a directory instead of a file, or a disk or network failure",
+    remedy: "Give a file instead of a directory, or copy the file again.",
 };
 
 static PARAMETERS_NO_MEMORY: FaultText = FaultText {
@@ -274,8 +274,8 @@ static PARAMETERS_NO_MEMORY: FaultText = FaultText {
     name: "NoMemory",
     values: "",
     when: "out of memory",
-    causes: "a limit on memory",
-    remedy: "Raise the limit, or end other programs.",
+    causes: "a memory limit",
+    remedy: "Raise the memory limit, or close other programs.",
 };
 
 static WRONG_COUNT: FaultText = FaultText {
@@ -284,7 +284,7 @@ static WRONG_COUNT: FaultText = FaultText {
     name: "WrongCount",
     values: "",
     when: "the initial tour does not have as many cities as the problem",
-    causes: "the tour of another problem, or a city that is missing or there twice",
+    causes: "the tour of another problem, or a missing or duplicate city",
     remedy: "Give a tour of this problem as INITIAL_TOUR_FILE, or leave the key out.",
 };
 
@@ -294,7 +294,7 @@ static OUT_OF_RANGE: FaultText = FaultText {
     name: "OutOfRange",
     values: " place",
     when: "the city at this place of the initial tour is not a city of the problem",
-    causes: "cities that are numbered from 0, or the tour of another problem",
+    causes: "cities numbered from 0, or the tour of another problem",
     remedy: "Number the cities from 1, as the problem does.",
 };
 
@@ -303,9 +303,9 @@ static REPEATED_CITY: FaultText = FaultText {
     number: "3",
     name: "RepeatedCity",
     values: " place",
-    when: "the city at this place of the initial tour has been in it before",
-    causes: "the first city written again at the end, or a line that is there twice",
-    remedy: "List each city once; the way back to the first one is not written.",
+    when: "the city at this place of the initial tour already occurs earlier in it",
+    causes: "the first city repeated at the end, or a duplicate line",
+    remedy: "List each city once; do not repeat the first city at the end.",
 };
 
 /// The faults of problem, tour and solution files, then those of parameter files and those of an initial tour.

@@ -36,7 +36,7 @@ fn add_whole(page: &mut Page, file: &File<'_>, answer: &Answer) -> Result<(), Al
     match answer {
         Answer::Faulty(fault) => {
             let name = file.name;
-            page.line(&format_args!("{name}:{fault} is the first fault of the file."))
+            page.line(&format_args!("{name}:{fault} is the first fault in the file."))
         }
         Answer::Sound(sound) => add_sound(page, file, sound),
     }
@@ -53,7 +53,7 @@ fn add_line(page: &mut Page, file: &File<'_>, number: u64) -> Result<(), AllocEr
 
 /// Adds a sentence that the file with this name has no such line.
 fn add_missing(page: &mut Page, name: &str, number: u64, last: u64) -> Result<(), AllocError> {
-    page.line(&format_args!("{name} has no line {number}: its last one is {last}."))
+    page.line(&format_args!("{name} has no line {number}; its last line is line {last}."))
 }
 
 /// Adds how a line of the file with this name is read, and the line.
@@ -95,7 +95,7 @@ fn add_wanted(
         Kind::Solution => "a solution",
         Kind::Parameters => "a parameter file",
     };
-    page.line(&format_args!("Where {wanted} is wanted, this line is {name}:{fault}."))
+    page.line(&format_args!("If {wanted} is expected, this line is reported as {name}:{fault}."))
 }
 
 /// The fault of a file, if it is read as a file of this kind.

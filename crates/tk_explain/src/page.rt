@@ -18,10 +18,10 @@ const FURTHER: &str = "\n              ";
 pub const MEANING: &str = "Meaning:     ";
 
 /// The label of what was expected at its line.
-pub const WANTED: &str = "Wanted here: ";
+pub const WANTED: &str = "Expected:    ";
 
 /// The label of what was found there.
-pub const READ: &str = "Read:        ";
+pub const READ: &str = "Found:       ";
 
 /// The label of its usual causes.
 pub const CAUSES: &str = "Usual causes:";

@@ -62,11 +62,11 @@ pub fn add_sound(page: &mut Page, file: &File<'_>, sound: &Sound) -> Result<(), 
 fn use_of(kind: Kind) -> &'static str {
     match kind {
         Kind::Problem =>
-            "It comes first, as in tourkit check PROBLEM TOUR; a parameter file names it as PROBLEM_FILE.",
+            "Use it as PROBLEM, as in tourkit check PROBLEM TOUR, or as PROBLEM_FILE in a parameter file.",
         Kind::Tour =>
-            "It comes second, as in tourkit check PROBLEM TOUR; a parameter file names it as INITIAL_TOUR_FILE.",
-        Kind::Solution => "It comes second, as in tourkit checksol PROBLEM SOLUTION.",
-        Kind::Parameters => "It comes alone, as in tourkit solve PARAMETERS.",
+            "Use it as TOUR, as in tourkit check PROBLEM TOUR, or as INITIAL_TOUR_FILE in a parameter file.",
+        Kind::Solution => "Use it as SOLUTION, as in tourkit checksol PROBLEM SOLUTION.",
+        Kind::Parameters => "Use it as PARAMETERS, as in tourkit solve PARAMETERS.",
     }
 }
 

@@ -60,7 +60,7 @@ pub fn unopened(rt: &HostRuntime, file: &str) -> ExitCode {
 
 /// Reports that a number is neither that of a fault nor the name of a file.
 pub fn no_such_fault(rt: &HostRuntime, what: &str) -> ExitCode {
-    refuse(rt, what, "no fault has this number, and no file this name")
+    refuse(rt, what, "no such fault number and no such file")
 }
 
 /// Reports that the output file is the problem file. The message names both by their keys, options or arguments.
@@ -80,7 +80,7 @@ pub fn options_for_parameters(rt: &HostRuntime, file: &str) -> ExitCode {
     refuse(
         rt,
         file,
-        "options of a search need a problem file, and this is a parameter file",
+        "search options need a problem file, but this is a parameter file",
     )
 }
 
@@ -93,7 +93,7 @@ pub fn option_fault(rt: &HostRuntime, option: &str, kind: ParamKind) -> ExitCode
 /// Notes that a file name is most likely a mistake.
 pub fn note(rt: &HostRuntime, key: &str, name: &str, slip: &str) {
     let name = shown_name(rt, name);
-    let _ = eprintln!(rt; "tourkit: note: the file of {key} is '{name}', with {slip}");
+    let _ = eprintln!(rt; "tourkit: note: {key} names the file '{name}', including {slip}");
 }
 
 /// Notes that the file for the best tour so far contains a tour from an earlier search.

@@ -92,6 +92,6 @@ fn note_slip(rt: &HostRuntime, key: &str, name: &str) {
     if name.starts_with(':') {
         report::note(rt, key, name, "the colon");
     } else if name.contains(" #") {
-        report::note(rt, key, name, "all that follows the #");
+        report::note(rt, key, name, "everything after the #");
     }
 }

@@ -7,12 +7,12 @@ use clap::ArgMatches;
 use clap::builder::ValueParser;
 
 /// The text at the end of `check --help`.
-const HELP: &str = "Reads PROBLEM and TOUR, one of which may be - for standard input.
-Prints the length of the tour, or the first thing that is wrong with it.
+const HELP: &str = "Reads PROBLEM and TOUR; one of them may be -, for standard input.
+Prints the length of the tour, or the first fault of the list.
 
 Exit status:
   0  TOUR is a tour of PROBLEM
-  1  it is not
+  1  TOUR is not a tour of PROBLEM
   2  the arguments are wrong, or a file is invalid
   3  a file cannot be read, output cannot be written, or memory has run out
 

@@ -7,12 +7,12 @@ use clap::ArgMatches;
 use clap::builder::ValueParser;
 
 /// The text at the end of `checksol --help`.
-const HELP: &str = "Reads PROBLEM and SOLUTION, one of which may be - for standard input.
-Prints how many routes there are and what they cost, or the first thing that is wrong with them.
+const HELP: &str = "Reads PROBLEM and SOLUTION; one of them may be -, for standard input.
+Prints the number of routes and their cost, or their first fault.
 
 Exit status:
-  0  SOLUTION has valid routes of PROBLEM, and their cost
-  1  it has not
+  0  the routes of SOLUTION are valid, and so is their cost
+  1  the routes or their cost are wrong
   2  the arguments are wrong, a file is invalid, or PROBLEM is not a CVRP
   3  a file cannot be read, output cannot be written, or memory has run out
 

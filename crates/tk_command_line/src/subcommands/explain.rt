@@ -7,14 +7,14 @@ use clap::ArgMatches;
 use clap::builder::ValueParser;
 
 /// The text at the end of `explain --help`.
-const HELP: &str = "Prints what a fault means, what it usually comes from, and what to do.
-If WHAT is a file, reads it as the problem, tour, solution or parameter file that it is, and explains its first fault:
-the line, what was wanted there and what was read. If it has no fault, prints what it is.
-With LINE, WHAT is a file, and LINE is explained. A file with the number or the name of a fault is written ./WHAT.
+const HELP: &str = "Prints what a fault means, its usual causes, and what to do.
+If WHAT is a file (problem, tour, solution or parameters), explains its first fault: the line, what was expected
+there and what was found. If the file has no fault, says what it contains.
+With LINE, explains that line of the file. Write ./WHAT for a file that is named like a fault.
 
 Exit status:
   0  something was explained
-  2  the arguments are wrong, or WHAT is a number, but that of no fault, and no file
+  2  the arguments are wrong, or WHAT is a number that is neither a fault nor a file
   3  a file cannot be read, output cannot be written, or memory has run out
 
 Example:
@@ -30,7 +30,7 @@ static ARGUMENTS: [Argument; 2] = [
     },
     Argument {
         name: "LINE",
-        help: "a line of the file, from 1 on",
+        help: "the number of a line of the file",
         form: Form::Optional,
         values: ValueParser::Unsigned(1, u64::MAX),
     },

@@ -10,7 +10,7 @@ use tk_problem::CANDIDATE_LIMIT;
 
 /// The text at the end of `near --help`.
 const HELP: &str = "Reads PROBLEM.
-Prints a line for each city: its number, and the N nearest other cities by distance and then by number.
+Prints a line for each city: its number and its N nearest neighbours, with ties broken by city number.
 
 Exit status:
   0  the lists were printed
@@ -25,7 +25,7 @@ static ARGUMENTS: [Argument; 2] = [
     PROBLEM,
     Argument {
         name: "k",
-        help: "how many cities a list has, 1 to 100",
+        help: "length of each list, 1 to 100",
         form: Form::Number('k', "5"),
         values: ValueParser::Unsigned(1, CANDIDATE_LIMIT as u64),
     },
@@ -37,7 +37,7 @@ pub fn subcommand() -> Subcommand {
         kind: Kind::Near,
         name: "near",
         called: "tourkit near",
-        about: "Prints the nearest other cities of each city",
+        about: "Prints the nearest neighbours of each city",
         more: HELP,
         arguments: &ARGUMENTS,
     }

@@ -7,17 +7,17 @@ use clap::ArgMatches;
 use clap::builder::ValueParser;
 
 /// The text at the end of `plot --help`.
-const HELP: &str = "Reads PROBLEM and TOUR or SOLUTION, one of which may be - for standard input.
+const HELP: &str = "Reads PROBLEM and TOUR or SOLUTION; one of them may be -, for standard input.
 Prints a picture as SVG: the cities, the tour or the routes, and the depot of a CVRP.
-With --html, prints a page (HTML) that needs nothing else: the picture to zoom and move, the number, place and demand
-of each city, and a table of the routes.
-The second file is checked first. If it is not a tour of PROBLEM, or has no valid routes of it, nothing is drawn,
-and standard error has what check or checksol would print.
+With --html, prints a self-contained HTML page: a picture to zoom and pan, the number, coordinates and demand of each
+city, and a table of the routes.
+The second file is checked first. If it is not a tour of PROBLEM, or its routes are not valid, nothing is drawn,
+and standard error gets what check or checksol would print.
 
 Exit status:
   0  the picture or the page was printed
-  1  TOUR is not a tour of PROBLEM, or SOLUTION has no valid routes of it
-  2  the arguments are wrong, a file is invalid, or PROBLEM has explicit distances in place of coordinates
+  1  TOUR is not a tour of PROBLEM, or the routes of SOLUTION are not valid
+  2  the arguments are wrong, a file is invalid, or PROBLEM has explicit weights and no coordinates
   3  a file cannot be read, output cannot be written, or memory has run out
 
 Examples:
@@ -35,7 +35,7 @@ static ARGUMENTS: [Argument; 3] = [
     },
     Argument {
         name: "html",
-        help: "print a page of HTML in place of a picture",
+        help: "print an HTML page instead of an SVG picture",
         form: Form::Flag,
         values: ValueParser::Bool,
     },

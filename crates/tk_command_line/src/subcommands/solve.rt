@@ -10,14 +10,14 @@ use tk_problem::CANDIDATE_LIMIT;
 
 /// The text at the end of `solve --help`.
 const HELP: &str =
-    "With options of a search, or -o, the file is PROBLEM. Else it is PARAMETERS, which says all of a search.
+    "With a search option or -o, the file is PROBLEM. Otherwise it is PARAMETERS, which specifies the whole search.
 Prints a line for each run and the best length, or the costs of the routes of a CVRP.
-Writes the best tour or the routes to the file of -o, or of TOUR_FILE or SOLUTION_FILE.
-While it runs, the best tour so far is kept in the tour's file with .best after its name, from the fifth second on.
+Writes the best tour or the routes to the file that -o, TOUR_FILE or SOLUTION_FILE names.
+From the fifth second on, the best tour so far is kept in a file of that name plus .best.
 
 Exit status:
   0  the search is done
-  2  the arguments are wrong, a file is invalid, or a key or option does not fit the problem
+  2  the arguments are wrong, a file is invalid, or a key or option does not apply to the problem
   3  a file cannot be read or written, output cannot be written, or memory has run out
 
 Examples:
@@ -37,55 +37,55 @@ static ARGUMENTS: [Argument; 12] = [
     },
     Argument {
         name: "output",
-        help: "where the best tour is written, or the routes of a CVRP",
+        help: "write the best tour, or the routes of a CVRP, to FILE",
         form: Form::File('o'),
         values: ValueParser::String,
     },
     Argument {
         name: "trials",
-        help: "how many trials a run has, 1 to 1,000,000 [default: the number of cities]",
+        help: "trials per run, 1 to 1,000,000 [default: the number of cities]",
         form: Form::Long("N"),
         values: ValueParser::Unsigned(1, 1_000_000),
     },
     Argument {
         name: "candidates",
-        help: "how many near cities of each city are tried, 1 to 100 [default: 5]",
+        help: "length of the near lists, 1 to 100 [default: 5]",
         form: Form::Long("N"),
         values: ValueParser::Unsigned(1, CANDIDATE_LIMIT as u64),
     },
     Argument {
         name: "runs",
-        help: "how many runs there are, 1 to 10,000 [default: 10]",
+        help: "number of runs, 1 to 10,000 [default: 10]",
         form: Form::Long("N"),
         values: ValueParser::Unsigned(1, 10_000),
     },
     Argument {
         name: "seed",
-        help: "what the random numbers begin with [default: 1]",
+        help: "seed of the random numbers [default: 1]",
         form: Form::Long("N"),
         values: ValueParser::Unsigned(0, u32::MAX as u64),
     },
     Argument {
         name: "or-segment",
-        help: "the most cities that an Or-move moves, 1 to 3 [default: 3]",
+        help: "longest segment that an Or-opt move moves, 1 to 3 [default: 3]",
         form: Form::Long("N"),
         values: ValueParser::Unsigned(1, 3),
     },
     Argument {
         name: "construction",
-        help: "how the tour is made that a run begins with [default: nearest]",
+        help: "how to construct the starting tours [default: nearest]",
         form: Form::Long("HOW"),
         values: ValueParser::Names(&CONSTRUCTIONS),
     },
     Argument {
         name: "final-sweep",
-        help: "go on with each trial until no city has an improving move",
+        help: "continue each trial until no city has an improving move",
         form: Form::Flag,
         values: ValueParser::Bool,
     },
     Argument {
         name: "initial-tour",
-        help: "the tour that each run begins with, or - for standard input (not for a CVRP)",
+        help: "start every run from this tour, or - for standard input (TSP only)",
         form: Form::Long("TOUR"),
         values: ValueParser::String,
     },

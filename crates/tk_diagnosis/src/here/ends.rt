@@ -124,7 +124,7 @@ fn few_entries<'a>(end: Option<&'a [u8]>, section: Keyword, have: u64, size: Siz
     }
     let Size { nodes, line, .. } = size;
     let missing = nodes.saturating_sub(entries);
-    let text = "Write DIMENSION : {} on line {}, or add what is missing: {} of {} entries.";
+    let text = "Write DIMENSION : {} on line {}, or add the missing entries ({} of {}).";
     Here {
         wanted,
         read: of_end("{}, after {} of {} entries", end).numbers([entries, nodes]),
@@ -149,8 +149,8 @@ fn few_weights<'a>(end: Option<&'a [u8]>, have: u64, size: Size) -> Here<'a> {
         numbers,
     } = size;
     let next = have.saturating_add(1);
-    let text = "Add the weights that are missing, or correct DIMENSION or EDGE_WEIGHT_FORMAT: \
-        both say how many there are.";
+    let text = "Add the missing weights, or correct DIMENSION or EDGE_WEIGHT_FORMAT, which \
+        determine their number.";
     Here {
         wanted: Sentence::of("weight {} of {}, since DIMENSION is {} (line {})").numbers([
             next, numbers, nodes, line,
@@ -188,7 +188,7 @@ fn no_word<'a>(spot: &Spot<'a>) -> Here<'a> {
     if keyword_at(spot.line).is_some() {
         return Here::new(
             Sentence::of("nothing more on the line"),
-            Sentence::of("more after the keyword"),
+            Sentence::of("extra data after the keyword"),
         );
     }
     let bytes = first_token(spot.line);
@@ -199,8 +199,8 @@ fn no_word<'a>(spot: &Spot<'a>) -> Here<'a> {
             spot.number,
         ),
         _ => no_keyword(
-            Sentence::about("{}, which does not begin with one", bytes),
-            "Remove line {}, or write COMMENT : before it if it is a comment: there are no other comments.",
+            Sentence::about("{}, which does not begin with a letter", bytes),
+            "Remove line {}, or put COMMENT : before it if it is a comment; there is no other form of comment.",
             spot.number,
         ),
     }
@@ -231,7 +231,7 @@ fn too_many<'a>(spot: &Spot<'a>, place: Place, size: Size) -> Here<'a> {
 
 /// The sentence on what can follow a section that has all of its numbers.
 fn after_section<'a>(section: Keyword, numbers: u64) -> Sentence<'a> {
-    Sentence::of("a header, another section or EOF: {} has its {} numbers")
+    Sentence::of("a header, another section or EOF: {} has all of its {} numbers")
         .keyword(section)
         .number(numbers)
 }
@@ -240,7 +240,7 @@ fn after_section<'a>(section: Keyword, numbers: u64) -> Sentence<'a> {
 fn behind_last(section: Keyword, numbers: u64, bytes: &[u8]) -> Here<'_> {
     let read = Sentence::about("{} after the last number of {}", bytes).keyword(section);
     Here::new(after_section(section, numbers), read).advice(
-        "Remove it. If it is a comment, write it on a line COMMENT : of its own, before the section.",
+        "Remove it. If it is a comment, write it on its own COMMENT : line before the section.",
     )
 }
 
@@ -255,10 +255,10 @@ fn begins_entry(line: &[u8]) -> bool {
 /// The diagnosis of a weight after the last one.
 fn one_weight_more(bytes: &[u8], size: Size) -> Here<'_> {
     let text =
-        "Correct DIMENSION (line {}) or EDGE_WEIGHT_FORMAT: both say how many weights there are.";
+        "Correct DIMENSION (line {}) or EDGE_WEIGHT_FORMAT, which determine the number of weights.";
     Here {
         wanted: after_section(Keyword::EdgeWeightSection, size.numbers),
-        read: Sentence::about("{}, one more weight", bytes),
+        read: Sentence::about("{}, an extra weight", bytes),
         remedy: Some(Sentence::of(text).number(size.line)),
         other: Some(size.line),
     }
@@ -267,7 +267,7 @@ fn one_weight_more(bytes: &[u8], size: Size) -> Here<'_> {
 /// The diagnosis of further lines after the last entry of a section.
 fn more_entries<'a>(spot: &Spot<'a>, section: Keyword, size: Size) -> Here<'a> {
     let entries = numbers_in(spot.text, section) / entry_width(section);
-    let text = "Write DIMENSION : {} on line {}, or remove what is too much, from line {} on.";
+    let text = "Write DIMENSION : {} on line {}, or remove the extra entries, from line {} on.";
     Here {
         wanted: after_section(section, size.numbers),
         read: size.entry_after(
@@ -284,9 +284,9 @@ fn more_entries<'a>(spot: &Spot<'a>, section: Keyword, size: Size) -> Here<'a> {
 fn after_list<'a>(spot: &Spot<'a>, section: Keyword) -> Here<'a> {
     let count = count_tokens(spot.line);
     let bytes = token_after(spot.line, count.saturating_sub(1)).unwrap_or(spot.line);
-    let text = "a header or EOF on a new line, since -1 has ended {}";
+    let text = "a header or EOF on a new line, since -1 ends {}";
     let wanted = Sentence::of(text).keyword(section);
     Here::new(wanted, Sentence::of_word(bytes)).advice(
-        "Remove it, or the -1 before it if the list goes on.",
+        "Remove it, or the -1 before it if the list continues.",
     )
 }

@@ -16,14 +16,14 @@ pub fn missing<'a>(spot: &Spot<'a>, word: Keyword) -> Here<'a> {
 
 /// The diagnosis of a header that is missing before a section.
 fn before<'a>(spot: &Spot<'a>, word: Keyword, section: Keyword) -> Here<'a> {
-    let wanted = Sentence::of("{}, which stands before {}")
+    let wanted = Sentence::of("{}, which must come before {}")
         .keyword(word)
         .keyword(section);
     if let Some(later) = header(spot.text, word) {
         let line = later.line;
         return Here {
             wanted,
-            read: Sentence::of("{}, and {} only on line {}")
+            read: Sentence::of("{}, but {} only on line {}")
                 .keyword(section)
                 .keyword(word)
                 .number(line),
@@ -31,7 +31,7 @@ fn before<'a>(spot: &Spot<'a>, word: Keyword, section: Keyword) -> Here<'a> {
             other: Some(line),
         };
     }
-    let read = Sentence::of("{}, and no {} before it")
+    let read = Sentence::of("{}, without {} before it")
         .keyword(section)
         .keyword(word);
     Here::new(wanted, read).with(added_before(spot, word, section))
@@ -43,7 +43,7 @@ fn added_before<'a>(spot: &Spot<'_>, word: Keyword, section: Keyword) -> Sentenc
     let nodes = numbers_in(spot.text, section) / width;
     if word == Keyword::Dimension && width > 1 && nodes > 1 {
         return Sentence::of(
-            "Add the line DIMENSION : {} before line {}, if all nodes are there.",
+            "Add the line DIMENSION : {} before line {}, if no node is missing.",
         ).numbers([nodes, spot.number]);
     }
     Sentence::of("Add {} before line {}.")
@@ -56,7 +56,7 @@ fn at_end<'a>(spot: &Spot<'a>, word: Keyword) -> Here<'a> {
     let read = if spot.text.trim_ascii().is_empty() {
         Sentence::of("an empty file")
     } else {
-        Sentence::of("the end of the file, and no {} before it").keyword(word)
+        Sentence::of("the end of the file, without any {}").keyword(word)
     };
     let form = if word.role() == Role::BeginsSection {
         "Add {} at the end, before EOF."
@@ -64,7 +64,7 @@ fn at_end<'a>(spot: &Spot<'a>, word: Keyword) -> Here<'a> {
         "Add {} before the first section."
     };
     Here {
-        wanted: Sentence::of("{}, which the file needs").keyword(word),
+        wanted: Sentence::of("{}, which is required").keyword(word),
         read,
         remedy: Some(Sentence::of(form).text(example_of(spot.kind, word))),
         other: None,
@@ -83,7 +83,7 @@ fn example_of(kind: Kind, word: Keyword) -> &'static str {
         Keyword::EdgeWeightFormat => {
             "a line EDGE_WEIGHT_FORMAT : F, with the order of the weights, such as FULL_MATRIX,"
         }
-        Keyword::Capacity => "a line CAPACITY : C, with what a vehicle can carry,",
+        Keyword::Capacity => "a line CAPACITY : C, with the capacity of a vehicle,",
         Keyword::NodeCoordSection => {
             "NODE_COORD_SECTION, and for each node a line with its number, x and y,"
         }

@@ -84,7 +84,7 @@ fn in_header<'a>(spot: &Spot<'a>, word: Keyword, kind: TextKind) -> Here<'a> {
         _ => "2 to 100,000",
     };
     let form = if kind == TextKind::BadNumber {
-        "{}, which is no integer"
+        "{}, which is not an integer"
     } else {
         "{}"
     };
@@ -204,7 +204,7 @@ fn fault_within(bytes: &[u8], low: u64, high: u64, outside: TextKind) -> Option<
 /// The diagnosis of a number that is read as another one, since this line or an earlier one has too few numbers or too
 /// many.
 fn uneven<'a>(entry: Entry, bytes: &'a [u8], line: u64, count: u64) -> Here<'a> {
-    let text = "Look at line {} first: it has {} numbers, and an entry of {} has {}.";
+    let text = "Check line {} first: it has {} numbers, but an entry of {} has {}.";
     let remedy = Sentence::of(text)
         .numbers([line, count])
         .keyword(entry.section)
@@ -232,7 +232,7 @@ fn below_one<'a>(entry: Entry, bytes: &'a [u8]) -> Here<'a> {
         Sentence::about("{}, but node numbers start at 1", bytes),
     )
     .advice(
-        "Number the nodes from 1 on, and alike in every section. If they start at 0, add 1 to each.",
+        "Number the nodes from 1, in the same way in every section. If they start at 0, add 1 to each.",
     )
 }
 
@@ -252,10 +252,10 @@ fn outside(entry: Entry, bytes: &[u8]) -> Here<'_> {
     let here = Here::new(entry.wanted(), Sentence::of_word(bytes));
     match entry.section {
         Keyword::NodeCoordSection => here.advice(
-            "Give all coordinates in a larger unit: divide each of them by the same number.",
+            "Use a larger unit for all coordinates: divide each of them by the same number.",
         ),
         Keyword::TourSection => here.advice(
-            "Write the cities as the problem numbers them, from 1 on. Only -1 is negative, and it ends the list.",
+            "Number the cities from 1, as the problem does. Only the -1 that ends the list is negative.",
         ),
         _ => here,
     }
@@ -267,23 +267,23 @@ fn no_number(entry: Entry, bytes: &[u8]) -> Here<'_> {
     if !has_comma && entry.section == Keyword::NodeCoordSection && entry.index % 3 != 0 {
         return Here::new(
             entry.wanted(),
-            Sentence::about("{}, which is no number", bytes),
+            Sentence::about("{}, which is not a number", bytes),
         );
     }
     let (read, remedy) = if has_comma {
         (
             "{}, with a comma",
-            "Write a decimal point in place of the comma, or a blank where it stands between two numbers.",
+            "Write a decimal point instead of the comma, or a blank if it separates two numbers.",
         )
     } else if bytes.contains(&b'.') {
         (
-            "{}, which is no integer",
-            "Write an integer. If it is a coordinate, a number is missing or too many before it.",
+            "{}, which is not an integer",
+            "Write an integer. If this is a coordinate, there is a number missing or extra before it.",
         )
     } else {
         (
-            "{}, which is no number",
-            "Write an integer there, and blanks between the numbers.",
+            "{}, which is not a number",
+            "Write an integer, with blanks between the numbers.",
         )
     };
     Here::new(entry.wanted(), Sentence::about(read, bytes)).advice(remedy)
@@ -306,8 +306,8 @@ fn named_before<'a>(spot: &Spot<'a>, section: Keyword, size: u64) -> Result<Here
 /// The diagnosis of a node that is repeated on this line.
 fn repeated_node<'a>(section: Keyword, repeat: Repeat, line: u64) -> Here<'a> {
     let Repeat { node, first } = repeat;
-    let read = Sentence::of("node {} a second time; line {} has it first").numbers([node, first]);
-    let text = "Correct the node number on line {} or on line {}, or remove one of them.";
+    let read = Sentence::of("node {} again; it is already on line {}").numbers([node, first]);
+    let text = "Correct the node number on line {} or line {}, or remove one of the lines.";
     Here {
         wanted: Sentence::of("each node of {} once").keyword(section),
         read,

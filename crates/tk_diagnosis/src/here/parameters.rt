@@ -23,7 +23,7 @@ static NAMES: [&str; 11] = [
 ];
 
 /// The remedy for an unknown word that is similar to a key.
-const MEANT: &str = "Write {}, if that is meant; else put # before the line, or remove it.";
+const MEANT: &str = "If {} is meant, write that; otherwise put # before the line, or remove it.";
 
 /// The text on what is expected at the front of a line.
 const KEYS: &str =
@@ -51,8 +51,8 @@ pub fn parameter<'a>(spot: &Spot<'a>, kind: ParamKind) -> Result<Here<'a>, Alloc
 /// The diagnosis of a parameter file without PROBLEM_FILE.
 fn no_problem<'a>() -> Here<'a> {
     Here::new(
-        Sentence::of("PROBLEM_FILE, which the file needs"),
-        Sentence::of("the end of the file, and no PROBLEM_FILE before it"),
+        Sentence::of("PROBLEM_FILE, which is required"),
+        Sentence::of("the end of the file, without any PROBLEM_FILE"),
     )
 }
 
@@ -74,7 +74,7 @@ fn unknown_key<'a>(spot: &Spot<'a>) -> Result<Here<'a>, AllocError> {
     if is_other_key(key) {
         return Ok(other_key(key));
     }
-    let here = no_key(key, "{}, which is none of them");
+    let here = no_key(key, "{}, which is not one of these");
     or_nearest(here, spot.alloc, key, NAMES.as_slice(), MEANT)
 }
 
@@ -87,8 +87,8 @@ fn no_key<'a>(bytes: &'a [u8], read: &'static str) -> Here<'a> {
 fn other_key(key: &[u8]) -> Here<'_> {
     Here::advised(
         KEYS,
-        Sentence::about("{}, a key of LKH that tourkit does not have", key),
-        "Put # before the line, or let examples/lkh-to-tourkit translate the whole file.",
+        Sentence::about("{}, an LKH key that tourkit does not have", key),
+        "Put # before the line, or convert the whole file with examples/lkh-to-tourkit.",
     )
 }
 
@@ -98,7 +98,7 @@ fn repeated_key<'a>(spot: &Spot<'a>) -> Here<'a> {
     let first = first_with(spot.text, word);
     Here {
         wanted: Sentence::of("each key once"),
-        read: Sentence::about("{} a second time; line {} has it first", word).number(first),
+        read: Sentence::about("{} again; it is already on line {}", word).number(first),
         remedy: Some(remove_either(spot.number, first)),
         other: Some(first),
     }
@@ -161,10 +161,10 @@ fn other_value<'a>(bytes: &[u8], values: &'static str) -> Sentence<'a> {
         Sentence::of("Write the value after the key, or put # before the line.")
     } else if bytes.contains(&b'#') {
         Sentence::of(
-            "Remove the comment after the value: a comment is a line of its own, which begins with #.",
+            "Remove the comment after the value: a comment needs its own line, which begins with #.",
         )
     } else if first_token(bytes).len() < bytes.len() {
-        Sentence::of("Write the value alone: nothing may follow it.")
+        Sentence::of("Write only the value: nothing may follow it.")
     } else {
         Sentence::of("Write {}.").text(values)
     }

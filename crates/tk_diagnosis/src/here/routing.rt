@@ -52,7 +52,7 @@ fn is_bad(index: u64, number: i64, size: u64) -> bool {
 /// The diagnosis of a number after the depot.
 fn second_depot(bytes: &[u8]) -> Here<'_> {
     Here::advised(
-        "-1, since DEPOT_SECTION has its node",
+        "-1, since DEPOT_SECTION already has a node",
         Sentence::about("{}, a second node", bytes),
         "Keep one depot. If these are coordinates, write the number of the node that has them.",
     )
@@ -62,7 +62,7 @@ fn second_depot(bytes: &[u8]) -> Here<'_> {
 fn no_depot(bytes: &[u8], size: u64) -> Here<'_> {
     let wanted = Sentence::of("the number of the depot, from 1 to {}").number(size);
     Here::new(wanted, Sentence::of_word(bytes)).advice(
-        "Write the number of the node that is the depot, and then -1 on the next line.",
+        "Write the node number of the depot, and then -1 on the next line.",
     )
 }
 
@@ -72,7 +72,7 @@ fn depot_with_demand<'a>(spot: &Spot<'a>) -> Here<'a> {
         return Here::new(Sentence::of("a depot"), Sentence::of_word(spot.line));
     };
     let node = integer(depot.bytes).unwrap_or(0);
-    let wanted = Sentence::of("the demand 0 of node {}, which is the depot (line {})")
+    let wanted = Sentence::of("the demand 0 for node {}, which is the depot (line {})")
         .integer(node)
         .number(depot.line);
     let Some(found) = demand_of(spot, node) else {
@@ -104,10 +104,13 @@ pub fn over_capacity<'a>(spot: &Spot<'a>, node: u32) -> Here<'a> {
     let wanted = Sentence::about(text, capacity).number(line);
     let number = u64::from(node);
     let Some(found) = demand_of(spot, node as i64) else {
-        return Here::new(wanted, Sentence::of("more for node {}").number(number));
+        return Here::new(
+            wanted,
+            Sentence::of("a larger demand for node {}").number(number),
+        );
     };
     let text =
-        "Correct CAPACITY on line {} or the demand on line {}. No vehicle can serve a node in part.";
+        "Correct CAPACITY on line {} or the demand on line {}. One vehicle must serve the whole demand of a node.";
     Here {
         wanted,
         read: Sentence::about("the demand {} of node {} (line {})", found.bytes).numbers([
@@ -131,7 +134,7 @@ pub fn not_symmetric<'a>(spot: &Spot<'a>, row: u32, column: u32) -> Here<'a> {
         );
     };
     let text =
-        "Correct one of the two. If the distances depend on the direction, this is an ATSP, which cannot be used.";
+        "Correct one of the two. If the distances depend on the direction, this is an ATSP, which is not supported.";
     Here {
         wanted: mirrored(first, u64::from(row), u64::from(column)),
         read: Sentence::about("{} (line {})", second.bytes).number(second.line),

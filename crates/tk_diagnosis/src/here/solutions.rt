@@ -31,22 +31,22 @@ pub fn solution<'a>(spot: &Spot<'a>, kind: TextKind) -> Here<'a> {
 fn no_cost<'a>() -> Here<'a> {
     Here::advised(
         COST,
-        Sentence::of("the end of the file, and no Cost before it"),
-        "Add a line Cost 0 at the end: tourkit checksol then says what the routes cost.",
+        Sentence::of("the end of the file, without any Cost"),
+        "Add a line Cost 0 at the end: tourkit checksol then prints the cost of the routes.",
     )
 }
 
 /// The diagnosis of a cost that is malformed or outside its limits.
 fn bad_cost(value: &[u8]) -> Here<'_> {
     let read = if value.is_empty() {
-        Sentence::of("Cost and no number")
+        Sentence::of("Cost without a number")
     } else {
         Sentence::of_word(value)
     };
     Here::advised(
-        "Cost and an integer that is not negative",
+        "Cost and an integer from 0",
         read,
-        "Write an integer, such as Cost 0: tourkit checksol then says what the routes cost.",
+        "Write an integer, such as Cost 0: tourkit checksol then prints the cost of the routes.",
     )
 }
 
@@ -54,13 +54,13 @@ fn bad_cost(value: &[u8]) -> Here<'_> {
 fn other_line<'a>(spot: &Spot<'a>) -> Here<'a> {
     let bytes = first_token(spot.line);
     let remedy = if integer(bytes).is_some() {
-        "A route is one line: join this one to the line before, or write Route #K: in front of it."
+        "A route is one line: join this line to the one before, or write Route #K: before it."
     } else {
         "Remove the line, or move it after the line Cost N."
     };
     Here::advised(
         "a line Route #K: CUSTOMERS, or the line Cost N",
-        Sentence::about("{}, which begins neither", bytes),
+        Sentence::about("{}, which is neither of these", bytes),
         remedy,
     )
 }
@@ -71,9 +71,9 @@ fn after_cost<'a>(spot: &Spot<'a>, word: &'a [u8]) -> Here<'a> {
     if line == spot.number {
         return behind_cost(spot.line);
     }
-    let text = "no more routes and no other cost after the line Cost, which is line {}";
+    let text = "no more routes and no other cost after the cost on line {}";
     let wanted = Sentence::of(text).number(line);
-    let text = "Move line {} after the last route, and keep one such line.";
+    let text = "Move line {} after the last route, and keep only one Cost line.";
     Here {
         wanted,
         read: Sentence::of_word(word),
@@ -86,9 +86,9 @@ fn after_cost<'a>(spot: &Spot<'a>, word: &'a [u8]) -> Here<'a> {
 fn behind_cost(line: &[u8]) -> Here<'_> {
     let rest = token_after(value_behind(line, b':'), 1).unwrap_or(b"".as_slice());
     Here::advised(
-        "nothing after the number of Cost",
+        "nothing after the cost",
         Sentence::of_word(rest),
-        "Remove it, or move it to a line of its own after the cost.",
+        "Remove it, or move it to its own line after the cost.",
     )
 }
 
@@ -114,10 +114,10 @@ fn in_route<'a>(spot: &Spot<'a>, kind: TextKind) -> Here<'a> {
     if kind == TextKind::OutOfLimit {
         return Here::new(
             Sentence::of("at most 100,000 routes with 1,000,000 customers"),
-            Sentence::of("more"),
+            Sentence::of("more than that"),
         );
     }
-    other_route("a route with something else before its colon")
+    other_route("a route with something else before the colon")
 }
 
 /// The diagnosis of a bad customer.
@@ -125,7 +125,7 @@ fn other_customer(bytes: &[u8]) -> Here<'_> {
     Here::advised(
         "a customer, an integer from 0 to 4,294,967,295",
         Sentence::of_word(bytes),
-        "Correct the number. Customers are numbered from 1, without the depot, with blanks between them.",
+        "Correct the number. Customers are numbered from 1, without the depot, and separated by blanks.",
     )
 }
 

@@ -19,7 +19,7 @@ UPPER_DIAG_COL, LOWER_DIAG_COL or FUNCTION";
 pub fn unsupported<'a>(spot: &Spot<'a>) -> Here<'a> {
     match keyword_at(spot.line) {
         None => Here::new(
-            Sentence::of("a keyword that tourkit reads"),
+            Sentence::of("a keyword that tourkit supports"),
             Sentence::of_word(spot.line),
         ),
         Some(word) if spot.kind == Kind::Tour => in_tour(spot, word),
@@ -44,7 +44,7 @@ fn in_problem<'a>(spot: &Spot<'a>, word: Keyword) -> Here<'a> {
         Keyword::NodeCoordType => valued(
             spot,
             "NODE_COORD_TYPE TWOD_COORDS or NO_COORDS",
-            "Nodes have two coordinates here. Remove the line if the third one does not count, and the numbers too.",
+            "Only two coordinates are supported. If the third one does not matter, remove it and this line.",
         ),
         Keyword::DemandSection | Keyword::DepotSection => for_cvrp(spot, word),
         Keyword::EdgeWeightSection => without_weights(spot),
@@ -56,10 +56,10 @@ fn in_problem<'a>(spot: &Spot<'a>, word: Keyword) -> Here<'a> {
 fn not_supported<'a>(word: Keyword) -> Here<'a> {
     match word {
         Keyword::Distance | Keyword::ServiceTime | Keyword::Vehicles => other_word(
-            "a header that tourkit reads",
+            "a header that tourkit supports",
             word,
             "{}, which is not supported",
-            "Remove the line, if routes may be as long and as many as they like.",
+            "Remove the line if neither the number of routes nor their length is limited.",
         ),
         _ => other_section(word),
     }
@@ -78,7 +78,7 @@ fn other_type<'a>(spot: &Spot<'a>) -> Here<'a> {
     valued(
         spot,
         "TYPE : TSP or TYPE : CVRP",
-        "Other types cannot be read. If it is a TSP whose distances are the same in both directions, write TYPE : TSP.",
+        "Other types are not supported. For a TSP with the same distances in both directions, write TYPE : TSP.",
     )
 }
 
@@ -105,7 +105,7 @@ fn other_word<'a>(
 /// The diagnosis of a section of a CVRP in a TSP.
 fn for_cvrp<'a>(spot: &Spot<'a>, word: Keyword) -> Here<'a> {
     let line = header_line(spot.text, Keyword::Type);
-    let text = "Write TYPE : CVRP on line {}, or remove the section with its lines.";
+    let text = "Write TYPE : CVRP on line {}, or remove the whole section.";
     Here {
         wanted: Sentence::of("a section of a TSP"),
         read: Sentence::of("{}, which is for a CVRP, but TYPE is TSP (line {})")
@@ -119,9 +119,9 @@ fn for_cvrp<'a>(spot: &Spot<'a>, word: Keyword) -> Here<'a> {
 /// The diagnosis of a section of weights that the headers do not announce.
 fn without_weights<'a>(spot: &Spot<'a>) -> Here<'a> {
     Here::advised(
-        "no weights, which the headers do not announce",
+        "no weights, since the headers do not announce any",
         weights_without_type(spot.text),
-        "Write EDGE_WEIGHT_TYPE : EXPLICIT and the format of the weights, or remove the section with its lines.",
+        "Write EDGE_WEIGHT_TYPE : EXPLICIT and the format of the weights, or remove the whole section.",
     )
 }
 
@@ -143,12 +143,12 @@ fn weights_without_type(text: &[u8]) -> Sentence<'_> {
 /// The diagnosis of a section that is not supported at all.
 fn other_section<'a>(word: Keyword) -> Here<'a> {
     let remedy = if word == Keyword::TourSection {
-        "Remove the section with its lines. A tour has a file of its own, with TYPE : TOUR."
+        "Remove the whole section. A tour needs its own file, with TYPE : TOUR."
     } else {
-        "Remove the section with its lines, if the problem is the same without it."
+        "Remove the whole section, if the problem is the same without it."
     };
     other_word(
-        "a section that tourkit reads",
+        "a section that tourkit supports",
         word,
         "{}, which is not supported in a problem",
         remedy,

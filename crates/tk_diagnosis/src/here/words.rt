@@ -28,7 +28,8 @@ static KEYWORDS: [&str; 15] = [
 ];
 
 /// The remedy for an unknown word that is similar to a keyword.
-const MEANT: &str = "Write {}, if that is meant; else put COMMENT : before the line, or remove it.";
+const MEANT: &str =
+    "If {} is meant, write that; otherwise put COMMENT : before the line, or remove it.";
 
 /// The list of the words that can begin a line, as a text.
 fn keywords(kind: Kind) -> &'static str {
@@ -48,7 +49,7 @@ pub fn unknown<'a>(spot: &Spot<'a>) -> Result<Here<'a>, AllocError> {
     let bytes = split_word(spot.line).0;
     let here = Here::new(
         Sentence::of(keywords(spot.kind)),
-        Sentence::about("{}, which is none of them", bytes),
+        Sentence::about("{}, which is not one of these", bytes),
     );
     or_nearest(here, spot.alloc, bytes, KEYWORDS.as_slice(), MEANT)
 }
@@ -74,7 +75,7 @@ pub fn or_nearest<'a>(
 pub fn repeated<'a>(spot: &Spot<'a>) -> Here<'a> {
     let word = keyword_at(spot.line).unwrap_or(Keyword::Name);
     let first = header_line(spot.text, word);
-    let read = Sentence::of("{} a second time; line {} has it first")
+    let read = Sentence::of("{} again; it is already on line {}")
         .keyword(word)
         .number(first);
     Here {
@@ -106,13 +107,13 @@ pub fn too_long<'a>(spot: &Spot<'a>) -> Here<'a> {
     if spot.text.len() as u64 > TEXT_LIMIT {
         return Here::new(
             Sentence::of("a file of at most 1,073,741,824 bytes"),
-            Sentence::of("more bytes than that"),
+            Sentence::of("a larger file"),
         );
     }
     let length = split_word(spot.line).0.len();
     if length > 64 {
         return long(
-            "a keyword, which has at most 64 bytes",
+            "a keyword of at most 64 bytes",
             "a word of {} bytes",
             length,
         );
@@ -124,7 +125,7 @@ pub fn too_long<'a>(spot: &Spot<'a>) -> Here<'a> {
             long("at most 4,096 bytes after the keyword", "{} bytes", value)
         }
         _ => long(
-            "a number, which has at most 64 bytes",
+            "a number of at most 64 bytes",
             "{} bytes without a blank",
             longest(spot.line),
         ),

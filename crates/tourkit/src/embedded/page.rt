@@ -6,7 +6,7 @@ pub static HEAD: &[u8] = br#"<!DOCTYPE html>
 <head>
 <meta charset="utf-8">
 <meta name="viewport" content="width=device-width, initial-scale=1">
-<meta http-equiv="Content-Security-Policy" content="default-src 'none'; style-src 'sha256-5huJ6kIGdYLPrj0740rDYTNUN2k1sCYmMATXZKreArE='; script-src 'sha256-5cses0Y/GO8fKcTRKi/rcCnz+mGcBiwm8m6GAGewsRc='">
+<meta http-equiv="Content-Security-Policy" content="default-src 'none'; style-src 'sha256-5huJ6kIGdYLPrj0740rDYTNUN2k1sCYmMATXZKreArE='; script-src 'sha256-/QPWiIIxkKLpvkVTGyYkfq+HII7YANytuU5FvLaZVOQ='">
 <style>
 "#;
 
@@ -123,20 +123,20 @@ tbody tr:hover, tbody tr:has([aria-pressed=true]) { background: var(--chosen); }
 
 /// The file `page/tools.html`.
 pub static TOOLS: &[u8] =
-    br#"<noscript><p class="help">Zoom, the numbers of cities and sorting need JavaScript, which is off.</p></noscript>
+    br#"<noscript><p class="help">Zooming, city numbers and sorting need JavaScript, which is turned off.</p></noscript>
 <template id="parts">
 <div id="tools">
 <button type="button" data-do="in" aria-label="Zoom in">+</button>
 <button type="button" data-do="out" aria-label="Zoom out">&minus;</button>
 <button type="button" data-do="whole">Whole</button>
 <label>City <input id="number" type="number" min="1" inputmode="numeric"></label>
-<button type="button" data-do="before" aria-label="The city before">&#9664;</button>
-<button type="button" data-do="next" aria-label="The next city">&#9654;</button>
+<button type="button" data-do="before" aria-label="Previous city">&#9664;</button>
+<button type="button" data-do="next" aria-label="Next city">&#9654;</button>
 </div>
 <div id="below">
 <p id="where" role="status"></p>
 <p class="help" id="keys">Drag to move, turn the wheel or pinch to zoom, point at a city for its number. Keys in the picture: arrows move,
-+ and &minus; zoom, 0 shows the whole, N and P go to the next city and the one before, Enter lights up its route, Escape ends that.</p>
++ and &minus; zoom, 0 shows the whole, N and P go to the next and the previous city, Enter highlights its route, Escape clears both.</p>
 </div>
 </template>
 "#;
@@ -394,7 +394,7 @@ function roleOf(city) {
 function placeOnLine(city) {
     const k = pathOf[city];
     if (k < 0) return [];
-    if (table === null) return [`place ${stopOf[city] + 1} of ${count} in the tour`];
+    if (table === null) return [`position ${stopOf[city] + 1} of ${count} in the tour`];
     return [`route ${rows[k].name}, stop ${stopOf[city]} of ${paths[k].length - 1}`];
 }
 
@@ -565,7 +565,7 @@ byId('tools').addEventListener('click', event => {
 });
 asked.addEventListener('change', () => {
     const city = Number(asked.value);
-    if (Number.isInteger(city) && city >= 1 && city <= count) goTo(city); else status.textContent = `The cities are 1 to ${count}.`;
+    if (Number.isInteger(city) && city >= 1 && city <= count) goTo(city); else status.textContent = `Cities are numbered 1 to ${count}.`;
 });
 
 // ---- pointers: a mouse, a pen, or fingers
