@@ -6,6 +6,7 @@ ghost use Rattle.std.specs.Prelude.{◌≡◌, ◌<◌, ◌≤◌, length, pos};
 ghost use Rattle.tk_tour.specs.ArrayTours.{order_of};
 ghost use Rattle.tk_tour.specs.Tour.{tour_length};
 
+use crate::lines::{Value, print_line};
 use crate::strips::along_strips;
 use crate::times::{Time, Times};
 use std::io;
@@ -119,12 +120,16 @@ fn descent<M: Metric>(metric: &M, near: &Near, tour: &mut ArrayTour, waking: &mu
 
 /// Prints the line of a phase.
 fn tell(rt: &HostRuntime, n: u32, phase: u32, took: Time, report: &Report) -> io::Result<()> {
-    let Report {
-        tests,
-        moves,
-        looks,
-        after,
-        ..
-    } = report;
-    println!(rt; "{n} {phase} {tests} {took} {moves} {looks} {after}")
+    print_line(
+        rt,
+        &[
+            Value::Number(n as u128),
+            Value::Number(phase as u128),
+            Value::Number(report.tests as u128),
+            Value::Time(took),
+            Value::Number(report.moves as u128),
+            Value::Number(report.looks as u128),
+            Value::Number(report.after.unsigned_abs() as u128),
+        ],
+    )
 }

@@ -3,6 +3,7 @@
 //! Each line contains the type of the distances and of the coordinates, the span of the coordinates, the sum of the
 //! distances, and the picoseconds of one distance.
 use crate::draws::advance;
+use crate::lines::{Value, print_line};
 use crate::times::{Time, Times};
 use std::alloc::{AllocError, Global};
 use std::io;
@@ -147,7 +148,15 @@ fn time_task<M: Metric>(
 
 /// Prints the line of a sum.
 fn tell(rt: &HostRuntime, name: &str, span: i64, sum: u64, took: Time) -> io::Result<()> {
-    println!(rt; "{name} {span} {sum} {took}")
+    print_line(
+        rt,
+        &[
+            Value::Word(name),
+            Value::Number(span.unsigned_abs() as u128),
+            Value::Number(sum as u128),
+            Value::Time(took),
+        ],
+    )
 }
 
 /// The sum of the distances of points that are fewer than `steps` positions apart, and the shortest time, in

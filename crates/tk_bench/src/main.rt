@@ -9,6 +9,7 @@ mod cities;
 mod descent;
 mod distances;
 mod draws;
+mod lines;
 mod near;
 mod places;
 mod savings;

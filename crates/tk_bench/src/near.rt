@@ -5,6 +5,7 @@
 ghost use Rattle.std.specs.Prelude.{◌≤◌};
 
 use crate::cities::{digest, digest_after};
+use crate::lines::{Value, print_line};
 use crate::places::{Input, sample};
 use crate::times::{Time, Times};
 use std::time::Instant;
@@ -149,7 +150,14 @@ fn time_tour(rt: &HostRuntime, times: Times, name: &str, table: &Table<'_>) -> a
 
 /// Prints the line of the tour.
 fn tell_tour(rt: &HostRuntime, name: &str, took: Time, cities: &[u32]) -> anyhow::Result<()> {
-    let digest = digest(cities);
-    println!(rt; "{name} start {took} {digest}")?;
+    print_line(
+        rt,
+        &[
+            Value::Word(name),
+            Value::Word("start"),
+            Value::Time(took),
+            Value::Number(digest(cities) as u128),
+        ],
+    )?;
     Ok(())
 }

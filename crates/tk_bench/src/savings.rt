@@ -7,6 +7,7 @@ ghost use Rattle.std.specs.Prelude.{◌≡◌, ◌<◌, ◌≤◌, length};
 use crate::cities::{digest, digest_after};
 use crate::places::{Input, sample};
 use crate::times::{Time, Times};
+use std::io;
 use std::time::Instant;
 use tk_build::{savings_lists, savings_tour};
 use tk_metric::{Metric, Near, Planes, near_tree};
@@ -93,15 +94,20 @@ fn time_tour<M: Metric>(
     let begin = Instant::now(rt)?;
     let tour = savings_tour(rt.alloc(), metric, near)?;
     let took = times.micros_since(rt, &begin)?;
-    tell_tour(rt, task, took, &tour)
+    tell_tour(rt, task, took, &tour)?;
+    Ok(())
+}
+
+/// Prints the beginning of a line: the box, the number of cities and the length of the near lists.
+fn begin_line(rt: &HostRuntime, task: &Task<'_>) -> io::Result<()> {
+    print!(rt; "{} {} K {} ", task.name, task.count, task.k)
 }
 
 /// Prints the line of the tour.
-fn tell_tour(rt: &HostRuntime, task: &Task<'_>, took: Time, tour: &[u32]) -> anyhow::Result<()> {
-    let Task { name, count, k, .. } = task;
+fn tell_tour(rt: &HostRuntime, task: &Task<'_>, took: Time, tour: &[u32]) -> io::Result<()> {
+    begin_line(rt, task)?;
     let cities = digest(tour);
-    println!(rt; "{name} {count} K {k} tour: {took} us, cities {cities}")?;
-    Ok(())
+    println!(rt; "tour: {took} us, cities {cities}")
 }
 
 /// Makes and times the lists, with these loads of the cities.
@@ -120,20 +126,15 @@ fn time_lists<M: Metric>(
     let begin = Instant::now(rt)?;
     let lists = savings_lists(rt.alloc(), metric, 1, loads, 50, near)?;
     let took = times.micros_since(rt, &begin)?;
-    tell_lists(rt, task, took, &lists)
+    tell_lists(rt, task, took, &lists)?;
+    Ok(())
 }
 
 /// Prints the line of the lists.
-fn tell_lists(
-    rt: &HostRuntime,
-    task: &Task<'_>,
-    took: Time,
-    lists: &[Vec<u32>],
-) -> anyhow::Result<()> {
-    let Task { name, count, k, .. } = task;
+fn tell_lists(rt: &HostRuntime, task: &Task<'_>, took: Time, lists: &[Vec<u32>]) -> io::Result<()> {
+    begin_line(rt, task)?;
     let (many, cities) = (lists.len(), digest_of_lists(lists));
-    println!(rt; "{name} {count} K {k} lists: {took} us, lists {many}, cities {cities}")?;
-    Ok(())
+    println!(rt; "lists: {took} us, lists {many}, cities {cities}")
 }
 
 /// A digest of the cities of all lists.

@@ -6,13 +6,14 @@
 ghost use Rattle.std.specs.Prelude.{◌≡◌, ◌<◌, ◌≤◌, length};
 ghost use Rattle.tk_tour.specs.ArrayTours.{order_of};
 
+use crate::lines::{Value, print_line};
 use crate::strips::along_strips;
 use crate::times::{Time, Times};
 use rand_core::SeedableRng;
 use rand_pcg::Pcg32;
 use std::io;
 use std::time::Instant;
-use tk_build::{Search, SearchRules, Totals};
+use tk_build::{Search, SearchRules};
 use tk_metric::{Metric, Near, Planes, near_tree};
 use tk_text::{CITY_LIMIT, PlaneKind};
 use tk_tour::{ArrayTour, TourStore};
@@ -122,13 +123,20 @@ fn tell<M: Metric>(
     took: Time,
 ) -> io::Result<()> {
     let n = search.best().len();
-    let Totals {
-        moves,
-        tests,
-        swaps,
-        better,
-        gained,
-        ..
-    } = search.totals();
-    println!(rt; "tourkit {n} {phase} {trials} {took} {moves} {tests} {swaps} {better} {gained}")
+    let totals = search.totals();
+    print_line(
+        rt,
+        &[
+            Value::Word("tourkit"),
+            Value::Number(n as u128),
+            Value::Number(phase as u128),
+            Value::Number(trials as u128),
+            Value::Time(took),
+            Value::Number(totals.moves),
+            Value::Number(totals.tests),
+            Value::Number(totals.swaps),
+            Value::Number(totals.better),
+            Value::Number(totals.gained),
+        ],
+    )
 }

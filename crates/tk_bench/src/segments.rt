@@ -3,10 +3,11 @@
 //! Each line contains the store, the number of cities, the trials, the nanoseconds of all flips, the swaps, and the
 //! city after city 1. A trial is a kick at random cuts, followed by flips of nearby cities, as a descent makes them
 //! after a kick.
-ghost use Rattle.std.specs.Prelude.{◌≡◌, ◌<◌, ◌≤◌, length};
+ghost use Rattle.std.specs.Prelude.{◌≡◌, ◌≢◌, ◌<◌, ◌≤◌, length, true};
 
 use crate::cities::first_cities;
 use crate::draws::draw_below;
+use crate::lines::{Value, print_line};
 use crate::times::{Time, Times};
 use rand_core::SeedableRng;
 use rand_pcg::Pcg32;
@@ -92,8 +93,17 @@ fn tell<S: TourStore>(
 ) -> io::Result<()>
     requires { 1 ≤ length (S.cities tour.now) }
 {
-    let (n, swaps, after) = (tour.size(), tour.swaps(), tour.next(1));
-    println!(rt; "{name} {n} {trials} {took} {swaps} {after}")
+    print_line(
+        rt,
+        &[
+            Value::Word(name),
+            Value::Number(tour.size() as u128),
+            Value::Number(trials as u128),
+            Value::Time(took),
+            Value::Number(tour.swaps() as u128),
+            Value::Number(tour.next(1) as u128),
+        ],
+    )
 }
 
 /// Makes this many trials.
@@ -110,6 +120,13 @@ fn make_trials<S: TourStore>(tour: &mut S, trials: u32)
     }
 }
 
+/// Whether these are two different cities of a tour of n cities.
+fn are_two_cities(n: u32, a: u32, c: u32) -> bool
+    ensures { (result ≡ true) → (1 ≤ a) × (a ≤ n) × (1 ≤ c) × (c ≤ n) × (a ≢ c) }
+{
+    a != c && 1 <= a && a <= n && 1 <= c && c <= n
+}
+
 /// Makes flips between positions that are near each other.
 fn flip_nearby<S: TourStore>(tour: &mut S, state: &mut u64)
     requires { 8 ≤ length (S.cities tour.old) }
@@ -121,10 +138,9 @@ fn flip_nearby<S: TourStore>(tour: &mut S, state: &mut u64)
         let reach = draw_below(state, REACH);
         let a = tour.at(k + 1);
         let c = tour.at((k + reach) % n + 1);
-        if a == c || a < 1 || a > n || c < 1 || c > n {
-            continue;
+        if are_two_cities(n, a, c) {
+            let (b, d) = (tour.next(a), tour.next(c));
+            let _ = tour.flip(a, b, c, d);
         }
-        let (b, d) = (tour.next(a), tour.next(c));
-        let _ = tour.flip(a, b, c, d);
     }
 }

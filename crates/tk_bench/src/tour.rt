@@ -5,6 +5,7 @@ ghost use Rattle.std.specs.Prelude.{◌<◌, ◌≤◌};
 
 use crate::cities::first_cities;
 use crate::draws::draw_below;
+use crate::lines::{Value, print_line};
 use crate::times::Times;
 use std::time::Instant;
 use tk_tour::{ArrayTour, TourStore};
@@ -37,8 +38,15 @@ fn time_flips(
     let begin = Instant::now(rt)?;
     let after = flip_often(tour, flips);
     let took = times.nanos_since(rt, &begin)?;
-    let (n, swaps) = (tour.size(), tour.swaps());
-    println!(rt; "{n} {swaps} {took} {after}")?;
+    print_line(
+        rt,
+        &[
+            Value::Number(tour.size() as u128),
+            Value::Number(tour.swaps() as u128),
+            Value::Time(took),
+            Value::Number(after as u128),
+        ],
+    )?;
     Ok(())
 }
 
