@@ -4,14 +4,14 @@ ghost use Rattle.tk_descent.specs.Steps.{AreTrueOf};
 ghost use Rattle.tk_tour.specs.ArrayTours.{order_of};
 ghost use Rattle.tk_tour.specs.Tour.{tour_length};
 
-use crate::given::{all_awake, expect_printed, expect_report, journal_of, near_of, tour_of};
+use crate::given::{all_awake, expect_printed, expect_report, near_of, tour_of, triangle};
 use std::alloc::{AllocError, Global};
 use std::process::Abort;
 use tk_descent::{
     Gains, Probe, Report, Steps, Waking, descend, descend_swept, is_local_optimum, look, make,
 };
-use tk_metric::{Metric, Near, Triangle};
-use tk_tour::{ArrayTour, JournalTour, TourStore, length};
+use tk_metric::{Metric, Near};
+use tk_tour::{ArrayTour, TourStore, length};
 
 /// Gains that wrap others, with the look that is the default of `Gains`.
 #[derive(Drop)]
@@ -130,7 +130,28 @@ fn descend_by_distances<M: Metric>(
 /// Then the lengths before and after; the moves, looks, tests and swaps; and the canonical form of the tour after it.
 type Row<'a> = ((u32, u32), Option<u64>, [i64; 2], [u64; 4], &'a [u32]);
 
-/// Checks that a descent of the cities in this order has the results of the row, and ends in a local optimum.
+/// Checks that a descent of the tour has the results of the row, and ends in a local optimum.
+fn expect_results<M: Metric>(
+    rt: &impl Abort,
+    alloc: Global,
+    metric: &M,
+    tour: &mut ArrayTour,
+    near: &Near,
+    row: &Row<'_>,
+)
+    requires metric { M.size_of metric.now ≡ length (order_of tour.old) }
+    requires near { near.now.size ≡ length (order_of tour.old) }
+{
+    let ((_, or_segment), passes, lengths, counts, printed) = *row;
+    assert!(rt; 1 <= or_segment);
+    assert!(rt; or_segment <= 3);
+    let report = descend_by_distances(rt, alloc, metric, tour, near, or_segment, passes);
+    expect_report(rt, &report, lengths, counts);
+    assert!(rt; is_local_optimum(tour, metric, near, or_segment));
+    expect_printed(rt, alloc, tour, printed);
+}
+
+/// Like `expect_results`, for a tour of the cities in this order.
 fn expect_descent<M: Metric>(
     rt: &impl Abort,
     alloc: Global,
@@ -138,14 +159,10 @@ fn expect_descent<M: Metric>(
     cities: &[u32],
     row: &Row<'_>,
 ) {
-    let ((width, or_segment), passes, lengths, counts, printed) = *row;
-    let near = near_of(rt, alloc, metric, width);
+    let near = near_of(rt, alloc, metric, row.0.0);
     let mut tour = tour_of(rt, alloc, cities);
-    assert!(rt; tour.size() == metric.size() && 1 <= or_segment && or_segment <= 3);
-    let report = descend_by_distances(rt, alloc, metric, &mut tour, &near, or_segment, passes);
-    expect_report(rt, &report, lengths, counts);
-    assert!(rt; is_local_optimum(&tour, metric, &near, or_segment));
-    expect_printed(rt, alloc, &tour, printed);
+    assert!(rt; tour.size() == metric.size());
+    expect_results(rt, alloc, metric, &mut tour, &near, row);
 }
 
 fn expect_descents<M: Metric>(
@@ -161,97 +178,95 @@ fn expect_descents<M: Metric>(
 }
 
 /// (0,0) (10,10) (10,0) (0,10), EUC_2D
-fn square() -> Triangle<'static>
-    ensures { result.n ≡ 4 }
-{
-    Triangle {
-        n: 4,
-        weights: &[14, 10, 10, 10, 10, 14],
-    }
-}
+const SQUARE: &[u32] = &[14, 10, 10, 10, 10, 14];
 
 /// UPPER_ROW 5 1 1 6 9 5 7 8 9 1
-fn uneven_cities() -> Triangle<'static>
-    ensures { result.n ≡ 5 }
-{
-    Triangle {
-        n: 5,
-        weights: &[5, 1, 9, 1, 5, 8, 6, 7, 9, 1],
+const UNEVEN: &[u32] = &[5, 1, 9, 1, 5, 8, 6, 7, 9, 1];
+
+/// The distances of cities, the order of the cities, and the results of descents from it.
+type Descents<'a> = (&'a [u32], &'a [u32], &'a [Row<'a>]);
+
+const DESCENTS: &[Descents<'static>] = &[
+    (
+        &[5],
+        &[1, 2],
+        &[((1, 3), None, [10, 10], [0, 2, 4, 0], &[1, 2])],
+    ),
+    // (0,0) (3,0) (0,4), EUC_2D
+    (
+        &[3, 4, 5],
+        &[1, 2, 3],
+        &[
+            ((2, 3), None, [12, 12], [0, 3, 18, 0], &[1, 2, 3]),
+            ((2, 3), Some(1), [12, 12], [0, 3, 18, 0], &[1, 2, 3]),
+        ],
+    ),
+    // a crossing
+    (
+        SQUARE,
+        &[1, 2, 3, 4],
+        &[
+            ((3, 3), None, [48, 40], [1, 5, 57, 1], &[1, 3, 2, 4]),
+            ((3, 2), None, [48, 40], [1, 5, 57, 1], &[1, 3, 2, 4]),
+            ((3, 1), None, [48, 40], [1, 5, 41, 1], &[1, 3, 2, 4]),
+            ((3, 3), Some(2), [48, 40], [1, 9, 113, 1], &[1, 3, 2, 4]),
+        ],
+    ),
+    // UPPER_ROW 1 2 3 4 5 6: all tours are equally long
+    (
+        &[1, 2, 4, 3, 5, 6],
+        &[1, 2, 3, 4],
+        &[((3, 3), None, [14, 14], [0, 4, 56, 0], &[1, 2, 3, 4])],
+    ),
+    // UPPER_ROW 10 1 10 10 1 100 10 10 10 10: a segment moves
+    (
+        &[10, 1, 1, 10, 100, 10, 10, 10, 10, 10],
+        &[1, 2, 3, 4, 5],
+        &[
+            ((1, 3), None, [41, 32], [1, 6, 31, 2], &[1, 3, 2, 5, 4]),
+            ((1, 2), None, [41, 32], [1, 6, 26, 2], &[1, 3, 2, 5, 4]),
+            ((1, 1), None, [41, 32], [1, 6, 19, 2], &[1, 3, 2, 5, 4]),
+            ((1, 3), Some(2), [41, 32], [1, 11, 59, 2], &[1, 3, 2, 5, 4]),
+        ],
+    ),
+    // longer segments
+    (
+        UNEVEN,
+        &[1, 2, 3, 4, 5],
+        &[
+            ((2, 1), None, [29, 21], [2, 7, 37, 2], &[1, 2, 4, 5, 3]),
+            ((2, 2), None, [29, 19], [3, 9, 71, 4], &[1, 3, 2, 5, 4]),
+            ((2, 3), None, [29, 19], [3, 9, 83, 4], &[1, 3, 2, 5, 4]),
+            ((2, 1), Some(2), [29, 21], [2, 12, 71, 2], &[1, 2, 4, 5, 3]),
+            ((2, 2), Some(2), [29, 19], [3, 14, 123, 4], &[1, 3, 2, 5, 4]),
+        ],
+    ),
+];
+
+#[test]
+fn known_descents(rt: HostRuntime) {
+    for (weights, cities, rows) in DESCENTS {
+        assert!(rt; cities.len() <= 16);
+        let metric = triangle(&rt, cities.len() as u32, weights);
+        expect_descents(&rt, rt.alloc(), &metric, cities, rows);
     }
 }
 
-#[test]
-fn two_cities(rt: HostRuntime) {
-    let metric = Triangle {
-        n: 2,
-        weights: &[5],
-    };
-    let rows: &[Row<'_>] = &[((1, 3), None, [10, 10], [0, 2, 4, 0], &[1, 2])];
-    expect_descents(&rt, rt.alloc(), &metric, &[1, 2], rows);
-}
-
-/// (0,0) (3,0) (0,4), EUC_2D
-#[test]
-fn three_cities_right_angle(rt: HostRuntime) {
-    let metric = Triangle {
-        n: 3,
-        weights: &[3, 4, 5],
-    };
-    let rows: &[Row<'_>] = &[
-        ((2, 3), None, [12, 12], [0, 3, 18, 0], &[1, 2, 3]),
-        ((2, 3), Some(1), [12, 12], [0, 3, 18, 0], &[1, 2, 3]),
-    ];
-    expect_descents(&rt, rt.alloc(), &metric, &[1, 2, 3], rows);
-}
-
-#[test]
-fn crossed_square(rt: HostRuntime) {
-    let rows: &[Row<'_>] = &[
-        ((3, 3), None, [48, 40], [1, 5, 57, 1], &[1, 3, 2, 4]),
-        ((3, 2), None, [48, 40], [1, 5, 57, 1], &[1, 3, 2, 4]),
-        ((3, 1), None, [48, 40], [1, 5, 41, 1], &[1, 3, 2, 4]),
-        ((3, 3), Some(2), [48, 40], [1, 9, 113, 1], &[1, 3, 2, 4]),
-    ];
-    expect_descents(&rt, rt.alloc(), &square(), &[1, 2, 3, 4], rows);
-}
-
-/// UPPER_ROW 1 2 3 4 5 6
-#[test]
-fn each_tour_as_long(rt: HostRuntime) {
-    let metric = Triangle {
-        n: 4,
-        weights: &[1, 2, 4, 3, 5, 6],
-    };
-    let rows: &[Row<'_>] = &[((3, 3), None, [14, 14], [0, 4, 56, 0], &[1, 2, 3, 4])];
-    expect_descents(&rt, rt.alloc(), &metric, &[1, 2, 3, 4], rows);
-}
-
-/// UPPER_ROW 10 1 10 10 1 100 10 10 10 10
-#[test]
-fn one_segment_moves(rt: HostRuntime) {
-    let metric = Triangle {
-        n: 5,
-        weights: &[10, 1, 1, 10, 100, 10, 10, 10, 10, 10],
-    };
-    let rows: &[Row<'_>] = &[
-        ((1, 3), None, [41, 32], [1, 6, 31, 2], &[1, 3, 2, 5, 4]),
-        ((1, 2), None, [41, 32], [1, 6, 26, 2], &[1, 3, 2, 5, 4]),
-        ((1, 1), None, [41, 32], [1, 6, 19, 2], &[1, 3, 2, 5, 4]),
-        ((1, 3), Some(2), [41, 32], [1, 11, 59, 2], &[1, 3, 2, 5, 4]),
-    ];
-    expect_descents(&rt, rt.alloc(), &metric, &[1, 2, 3, 4, 5], rows);
-}
-
-#[test]
-fn longer_segments(rt: HostRuntime) {
-    let rows: &[Row<'_>] = &[
-        ((2, 1), None, [29, 21], [2, 7, 37, 2], &[1, 2, 4, 5, 3]),
-        ((2, 2), None, [29, 19], [3, 9, 71, 4], &[1, 3, 2, 5, 4]),
-        ((2, 3), None, [29, 19], [3, 9, 83, 4], &[1, 3, 2, 5, 4]),
-        ((2, 1), Some(2), [29, 21], [2, 12, 71, 2], &[1, 2, 4, 5, 3]),
-        ((2, 2), Some(2), [29, 19], [3, 14, 123, 4], &[1, 3, 2, 5, 4]),
-    ];
-    expect_descents(&rt, rt.alloc(), &uneven_cities(), &[1, 2, 3, 4, 5], rows);
+/// Makes a descent of a tour with no city awake.
+fn descend_asleep<M: Metric>(
+    rt: &impl Abort,
+    alloc: Global,
+    metric: &M,
+    tour: &mut ArrayTour,
+    near: &Near,
+) -> Report
+    requires metric { M.size_of metric.now ≡ length (order_of tour.old) }
+    requires near { near.now.size ≡ length (order_of tour.old) }
+    ensures { length (order_of tour.new) ≡ length (order_of tour.old) }
+{
+    let mut asleep = Waking::new(alloc, metric.size()).expect(rt, "memory for the cities awake");
+    let before = length_of(metric, tour);
+    descend(tour, &mut Probe::new(metric), near, &mut asleep, 3, before)
 }
 
 /// Checks that a descent of the crossed square with no city awake does nothing, and so does not end in a local optimum.
@@ -265,45 +280,63 @@ fn expect_nothing_done<M: Metric>(
     requires near { near.now.size ≡ M.size_of metric.now }
 {
     assert!(rt; tour.size() == metric.size());
-    let mut asleep = Waking::new(alloc, metric.size()).expect(rt, "memory for the cities awake");
-    let before = length_of(metric, tour);
-    let report = descend(tour, &mut Probe::new(metric), near, &mut asleep, 3, before);
+    let report = descend_asleep(rt, alloc, metric, tour, near);
     expect_report(rt, &report, [48, 48], [0; 4]);
     assert!(rt; !is_local_optimum(tour, metric, near, 3));
+    assert!(rt; tour.order() == [1, 2, 3, 4].as_slice());
 }
 
 #[test]
 fn crossed_square_asleep(rt: HostRuntime) {
-    let near = near_of(&rt, rt.alloc(), &square(), 3);
+    let square = triangle(&rt, 4, SQUARE);
+    let near = near_of(&rt, rt.alloc(), &square, 3);
     let mut tour = tour_of(&rt, rt.alloc(), &[1, 2, 3, 4]);
-    expect_nothing_done(&rt, rt.alloc(), &square(), &mut tour, &near);
-    assert!(rt; tour.order() == [1, 2, 3, 4].as_slice());
+    expect_nothing_done(&rt, rt.alloc(), &square, &mut tour, &near);
 }
 
-/// Checks a descent of a tour with a journal, by gains with the default look.
+/// Makes a descent of a tour by gains with the default look.
+fn descend_plainly<M: Metric>(
+    rt: &impl Abort,
+    alloc: Global,
+    metric: &M,
+    tour: &mut ArrayTour,
+    near: &Near,
+) -> Report
+    requires metric { M.size_of metric.now ≡ length (order_of tour.old) }
+    requires near { near.now.size ≡ length (order_of tour.old) }
+{
+    let before = length_of(metric, tour);
+    descend_awake(
+        rt,
+        alloc,
+        tour,
+        &mut Plain(Probe::new(metric)),
+        near,
+        2,
+        before,
+    )
+}
+
 fn expect_plain_descent<M: Metric>(
     rt: &impl Abort,
     alloc: Global,
     metric: &M,
-    tour: &mut JournalTour<ArrayTour>,
+    tour: &mut ArrayTour,
     near: &Near,
 )
     requires near { near.now.size ≡ M.size_of metric.now }
 {
     assert!(rt; tour.size() == metric.size());
-    let before = length_of(metric, tour.tour());
-    let mut gains = Plain(Probe::new(metric));
-    let report = descend_awake(rt, alloc, tour, &mut gains, near, 2, before);
+    let report = descend_plainly(rt, alloc, metric, tour, near);
     expect_report(rt, &report, [29, 19], [3, 9, 71, 4]);
-    expect_printed(rt, alloc, tour.tour(), &[1, 3, 2, 5, 4]);
+    expect_printed(rt, alloc, tour, &[1, 3, 2, 5, 4]);
 }
 
 #[test]
-fn journal_by_plain_gains(rt: HostRuntime) {
-    let metric = uneven_cities();
+fn plain_gains(rt: HostRuntime) {
+    let metric = triangle(&rt, 5, UNEVEN);
     let near = near_of(&rt, rt.alloc(), &metric, 2);
-    let tour = tour_of(&rt, rt.alloc(), &[1, 2, 3, 4, 5]);
-    let mut tour = journal_of(&rt, rt.alloc(), tour, 9);
+    let mut tour = tour_of(&rt, rt.alloc(), &[1, 2, 3, 4, 5]);
     expect_plain_descent(&rt, rt.alloc(), &metric, &mut tour, &near);
 }
 
@@ -328,43 +361,71 @@ fn steps_after<M: Metric>(
     gains.into_steps()
 }
 
+/// Makes descents with the same cache, with the cache that is taken from it, and with the empty one that is left.
+fn descend_remembering<M: Metric>(
+    rt: &impl Abort,
+    alloc: Global,
+    metric: &M,
+    near: &Near,
+    steps: Steps,
+)
+    requires near { near.now.size ≡ M.size_of metric.now }
+    requires steps { AreTrueOf (M.distance metric.now) steps }
+{
+    let steps = steps_after(rt, alloc, metric, near, steps);
+    let mut steps = steps_after(rt, alloc, metric, near, steps);
+    let _taken = steps_after(rt, alloc, metric, near, steps.take());
+    let _none = steps_after(rt, alloc, metric, near, steps);
+}
+
 #[test]
 fn remembers_steps(rt: HostRuntime) -> Result<(), AllocError> {
-    let metric = uneven_cities();
+    let metric = triangle(&rt, 5, UNEVEN);
     let steps = Steps::new(rt.alloc(), 5)?;
     let near = near_of(&rt, rt.alloc(), &metric, 2);
-    let steps = steps_after(&rt, rt.alloc(), &metric, &near, steps);
-    let mut steps = steps_after(&rt, rt.alloc(), &metric, &near, steps);
-    let _taken = steps_after(&rt, rt.alloc(), &metric, &near, steps.take());
-    let _none = steps_after(&rt, rt.alloc(), &metric, &near, steps);
+    descend_remembering(&rt, rt.alloc(), &metric, &near, steps);
     Ok(())
 }
 
 /// Checks that the first look at city 1 finds an offer, and that the look after its move finds none.
-fn expect_one_offer<M: Metric>(rt: &impl Abort, metric: &M, tour: &mut ArrayTour, near: &Near)
-    requires near { near.now.size ≡ M.size_of metric.now }
+fn expect_offer_and_none<S: TourStore, G: Gains>(
+    rt: &impl Abort,
+    tour: &mut S,
+    gains: &mut G,
+    near: &Near,
+)
+    requires some { 1 ≤ length (S.cities tour.old) }
+    requires gains { G.size_of gains.old ≡ length (S.cities tour.old) }
+    requires near { near.now.size ≡ length (S.cities tour.old) }
 {
-    assert!(rt; tour.size() == metric.size());
-    let mut gains = Probe::new(metric);
-    let Some(offer) = look(tour, &mut gains, near, 3, 1) else {
+    let Some(offer) = look(tour, gains, near, 3, 1) else {
         rt.panic("no offer")
     };
     assert!(rt; gains.tests() == 1);
     make(tour, &offer);
-    assert!(rt; look(tour, &mut gains, near, 3, 1).is_none() && gains.tests() == 15);
+    assert!(rt; look(tour, gains, near, 3, 1).is_none());
+    assert!(rt; gains.tests() == 15);
+}
+
+fn expect_one_offer<M: Metric>(rt: &impl Abort, metric: &M, tour: &mut ArrayTour, near: &Near)
+    requires { near.now.size ≡ M.size_of metric.now }
+{
+    assert!(rt; tour.size() == metric.size());
+    expect_offer_and_none(rt, tour, &mut Probe::new(metric), near);
 }
 
 #[test]
 fn looks_and_makes(rt: HostRuntime) {
-    let near = near_of(&rt, rt.alloc(), &square(), 3);
+    let square = triangle(&rt, 4, SQUARE);
+    let near = near_of(&rt, rt.alloc(), &square, 3);
     let mut tour = tour_of(&rt, rt.alloc(), &[1, 2, 3, 4]);
-    expect_one_offer(&rt, &square(), &mut tour, &near);
+    expect_one_offer(&rt, &square, &mut tour, &near);
     expect_printed(&rt, rt.alloc(), &tour, &[1, 3, 2, 4]);
 }
 
 #[test]
 fn gains_of_the_square(rt: HostRuntime) {
-    let metric = square();
+    let metric = triangle(&rt, 4, SQUARE);
     let mut gains = Probe::new(&metric);
     let crossed = gains.gain2(1, 2, 3, 4);
     let straight = gains.gain2(1, 3, 2, 4);

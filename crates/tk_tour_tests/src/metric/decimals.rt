@@ -17,14 +17,152 @@ const KINDS: [PlaneKind; 5] = [
     PlaneKind::Att,
 ];
 
-/// Two points in thousandths, the unit in which both are stored, and their distance by each type.
-#[derive(Clone, Copy)]
-struct Row {
-    unit: Option<Unit>,
-    from: (i64, i64),
-    to: (i64, i64),
-    distances: [i64; 5],
-}
+/// The unit in which two points are stored, the points in thousandths, and their distance by each type.
+type Row = (Option<Unit>, (i64, i64), (i64, i64), [i64; 5]);
+
+const ROWS: &[Row] = &[
+    // whole numbers
+    (Some(Unit::One), (0, 0), (3_000, 4_000), [5, 5, 7, 4, 2]),
+    (Some(Unit::One), (0, 0), (1_000, 1_000), [1, 2, 2, 1, 1]),
+    (Some(Unit::One), (0, 0), (1_000, 3_000), [3, 4, 4, 3, 1]),
+    (
+        Some(Unit::One),
+        (0, 0),
+        (10_000, 10_000),
+        [14, 15, 20, 10, 5],
+    ),
+    (
+        Some(Unit::One),
+        (-1_000_000_000_000, -1_000_000_000_000),
+        (1_000_000_000_000, 1_000_000_000_000),
+        [
+            2_828_427_125,
+            2_828_427_125,
+            4_000_000_000,
+            2_000_000_000,
+            894_427_191,
+        ],
+    ),
+    // tenths
+    (Some(Unit::Tenth), (0, 0), (1_500, 2_000), [3, 3, 4, 2, 1]),
+    (Some(Unit::Tenth), (0, 0), (0, 500), [1, 1, 1, 1, 1]),
+    (Some(Unit::Tenth), (0, 0), (1_200, 1_300), [2, 2, 3, 1, 1]),
+    (Some(Unit::Tenth), (0, 0), (2_400, 2_500), [3, 4, 5, 3, 2]),
+    (Some(Unit::Tenth), (0, 0), (300, 400), [1, 1, 1, 0, 1]),
+    (Some(Unit::Tenth), (0, 0), (200, 400), [0, 1, 1, 0, 1]),
+    (
+        Some(Unit::Tenth),
+        (7_000, -8_000),
+        (2_500, 0),
+        [9, 10, 13, 8, 3],
+    ),
+    (
+        Some(Unit::Tenth),
+        (-99_999_999_900, -100_000_000_000),
+        (100_000_000_000, 100_000_000_000),
+        [
+            282_842_712,
+            282_842_713,
+            400_000_000,
+            200_000_000,
+            89_442_720,
+        ],
+    ),
+    // hundredths
+    (
+        Some(Unit::Hundredth),
+        (-1_250, 2_000),
+        (1_250, 2_000),
+        [3, 3, 3, 3, 1],
+    ),
+    (
+        Some(Unit::Hundredth),
+        (-1_250, 2_000),
+        (1_240, 2_000),
+        [2, 3, 2, 2, 1],
+    ),
+    (
+        Some(Unit::Hundredth),
+        (10, 0),
+        (3_010, 4_000),
+        [5, 5, 7, 4, 2],
+    ),
+    (
+        Some(Unit::Hundredth),
+        (10, 0),
+        (3_020, 4_000),
+        [5, 6, 7, 4, 2],
+    ),
+    (
+        Some(Unit::Hundredth),
+        (-9_999_999_990, -10_000_000_000),
+        (10_000_000_000, 10_000_000_000),
+        [28_284_271, 28_284_272, 40_000_000, 20_000_000, 8_944_272],
+    ),
+    // thousandths
+    (
+        Some(Unit::Thousandth),
+        (1, 0),
+        (1_501, 2_000),
+        [3, 3, 4, 2, 1],
+    ),
+    (
+        Some(Unit::Thousandth),
+        (1, 0),
+        (1_500, 2_000),
+        [2, 3, 3, 2, 1],
+    ),
+    (Some(Unit::Thousandth), (1, -1), (-1, 1), [0, 1, 0, 0, 1]),
+    (
+        Some(Unit::Thousandth),
+        (1, 0),
+        (1_001, 3_000),
+        [3, 4, 4, 3, 1],
+    ),
+    (
+        Some(Unit::Thousandth),
+        (1, 0),
+        (1_002, 3_000),
+        [3, 4, 4, 3, 2],
+    ),
+    (
+        Some(Unit::Thousandth),
+        (-999_999_999, -1_000_000_000),
+        (1_000_000_000, 1_000_000_000),
+        [2_828_427, 2_828_428, 4_000_000, 2_000_000, 894_428],
+    ),
+    // too far for their unit
+    (
+        None,
+        (-100_000_000_100, 0),
+        (100_000_000_000, 100_000_000_000),
+        [
+            223_606_798,
+            223_606_798,
+            300_000_000,
+            200_000_000,
+            70_710_679,
+        ],
+    ),
+    (
+        None,
+        (-1_000_000_001, 5),
+        (1_000_000_000, 1_000_000_000),
+        [2_236_068, 2_236_068, 3_000_000, 2_000_000, 707_107],
+    ),
+    (
+        None,
+        (-999_999_999_999, -1_000_000_000_000),
+        (1_000_000_000_000, 1_000_000_000_000),
+        [
+            2_828_427_125,
+            2_828_427_125,
+            4_000_000_000,
+            2_000_000_000,
+            894_427_191,
+        ],
+    ),
+];
 
 fn place_of((x, y): (i64, i64)) -> Point {
     Point {
@@ -63,198 +201,19 @@ fn expect_distances(rt: &impl Abort, points: &Points, unit: Option<Unit>, distan
 }
 
 /// Checks the distances of a row, in its unit and in units of 10^-9.
-fn expect_row(rt: &impl Abort, alloc: Global, row: &Row) {
-    let (from, to) = (place_of(row.from), place_of(row.to));
+fn expect_row(rt: &impl Abort, alloc: Global, (unit, from, to, distances): &Row) {
+    let (from, to) = (place_of(*from), place_of(*to));
     let points = points_of(rt, alloc, &[from, to, ORIGIN]);
-    expect_distances(rt, &points, row.unit, &row.distances);
+    expect_distances(rt, &points, *unit, distances);
     let fine = points_of(rt, alloc, &[from, to, SPECK]);
-    expect_distances(rt, &fine, None, &row.distances);
+    expect_distances(rt, &fine, None, distances);
 }
 
-fn expect_rows(rt: &impl Abort, alloc: Global, rows: &[Row]) {
-    for row in rows {
-        expect_row(rt, alloc, row);
+#[test]
+fn distances_in_each_unit(rt: HostRuntime) {
+    for row in ROWS {
+        expect_row(&rt, rt.alloc(), row);
     }
-}
-
-fn between(unit: Option<Unit>, from: (i64, i64), to: (i64, i64), distances: [i64; 5]) -> Row {
-    Row {
-        unit,
-        from,
-        to,
-        distances,
-    }
-}
-
-#[test]
-fn whole_numbers(rt: HostRuntime) {
-    let rows = [
-        between(Some(Unit::One), (0, 0), (3_000, 4_000), [5, 5, 7, 4, 2]),
-        between(Some(Unit::One), (0, 0), (1_000, 1_000), [1, 2, 2, 1, 1]),
-        between(Some(Unit::One), (0, 0), (1_000, 3_000), [3, 4, 4, 3, 1]),
-        between(
-            Some(Unit::One),
-            (0, 0),
-            (10_000, 10_000),
-            [14, 15, 20, 10, 5],
-        ),
-        between(
-            Some(Unit::One),
-            (-1_000_000_000_000, -1_000_000_000_000),
-            (1_000_000_000_000, 1_000_000_000_000),
-            [
-                2_828_427_125,
-                2_828_427_125,
-                4_000_000_000,
-                2_000_000_000,
-                894_427_191,
-            ],
-        ),
-    ];
-    expect_rows(&rt, rt.alloc(), &rows);
-}
-
-#[test]
-fn tenths(rt: HostRuntime) {
-    let rows = [
-        between(Some(Unit::Tenth), (0, 0), (1_500, 2_000), [3, 3, 4, 2, 1]),
-        between(Some(Unit::Tenth), (0, 0), (0, 500), [1, 1, 1, 1, 1]),
-        between(Some(Unit::Tenth), (0, 0), (1_200, 1_300), [2, 2, 3, 1, 1]),
-        between(Some(Unit::Tenth), (0, 0), (2_400, 2_500), [3, 4, 5, 3, 2]),
-        between(Some(Unit::Tenth), (0, 0), (300, 400), [1, 1, 1, 0, 1]),
-        between(Some(Unit::Tenth), (0, 0), (200, 400), [0, 1, 1, 0, 1]),
-        between(
-            Some(Unit::Tenth),
-            (7_000, -8_000),
-            (2_500, 0),
-            [9, 10, 13, 8, 3],
-        ),
-        between(
-            Some(Unit::Tenth),
-            (-99_999_999_900, -100_000_000_000),
-            (100_000_000_000, 100_000_000_000),
-            [
-                282_842_712,
-                282_842_713,
-                400_000_000,
-                200_000_000,
-                89_442_720,
-            ],
-        ),
-    ];
-    expect_rows(&rt, rt.alloc(), &rows);
-}
-
-#[test]
-fn hundredths(rt: HostRuntime) {
-    let rows = [
-        between(
-            Some(Unit::Hundredth),
-            (-1_250, 2_000),
-            (1_250, 2_000),
-            [3, 3, 3, 3, 1],
-        ),
-        between(
-            Some(Unit::Hundredth),
-            (-1_250, 2_000),
-            (1_240, 2_000),
-            [2, 3, 2, 2, 1],
-        ),
-        between(
-            Some(Unit::Hundredth),
-            (10, 0),
-            (3_010, 4_000),
-            [5, 5, 7, 4, 2],
-        ),
-        between(
-            Some(Unit::Hundredth),
-            (10, 0),
-            (3_020, 4_000),
-            [5, 6, 7, 4, 2],
-        ),
-        between(
-            Some(Unit::Hundredth),
-            (-9_999_999_990, -10_000_000_000),
-            (10_000_000_000, 10_000_000_000),
-            [28_284_271, 28_284_272, 40_000_000, 20_000_000, 8_944_272],
-        ),
-    ];
-    expect_rows(&rt, rt.alloc(), &rows);
-}
-
-#[test]
-fn thousandths(rt: HostRuntime) {
-    let rows = [
-        between(
-            Some(Unit::Thousandth),
-            (1, 0),
-            (1_501, 2_000),
-            [3, 3, 4, 2, 1],
-        ),
-        between(
-            Some(Unit::Thousandth),
-            (1, 0),
-            (1_500, 2_000),
-            [2, 3, 3, 2, 1],
-        ),
-        between(Some(Unit::Thousandth), (1, -1), (-1, 1), [0, 1, 0, 0, 1]),
-        between(
-            Some(Unit::Thousandth),
-            (1, 0),
-            (1_001, 3_000),
-            [3, 4, 4, 3, 1],
-        ),
-        between(
-            Some(Unit::Thousandth),
-            (1, 0),
-            (1_002, 3_000),
-            [3, 4, 4, 3, 2],
-        ),
-        between(
-            Some(Unit::Thousandth),
-            (-999_999_999, -1_000_000_000),
-            (1_000_000_000, 1_000_000_000),
-            [2_828_427, 2_828_428, 4_000_000, 2_000_000, 894_428],
-        ),
-    ];
-    expect_rows(&rt, rt.alloc(), &rows);
-}
-
-#[test]
-fn too_far_for_their_unit(rt: HostRuntime) {
-    let rows = [
-        between(
-            None,
-            (-100_000_000_100, 0),
-            (100_000_000_000, 100_000_000_000),
-            [
-                223_606_798,
-                223_606_798,
-                300_000_000,
-                200_000_000,
-                70_710_679,
-            ],
-        ),
-        between(
-            None,
-            (-1_000_000_001, 5),
-            (1_000_000_000, 1_000_000_000),
-            [2_236_068, 2_236_068, 3_000_000, 2_000_000, 707_107],
-        ),
-        between(
-            None,
-            (-999_999_999_999, -1_000_000_000_000),
-            (1_000_000_000_000, 1_000_000_000_000),
-            [
-                2_828_427_125,
-                2_828_427_125,
-                4_000_000_000,
-                2_000_000_000,
-                894_427_191,
-            ],
-        ),
-    ];
-    expect_rows(&rt, rt.alloc(), &rows);
 }
 
 #[test]

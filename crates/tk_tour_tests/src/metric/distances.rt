@@ -3,30 +3,27 @@ use crate::places::{FAR, ORIGIN, planes_of, points_of, unit_of};
 use std::alloc::Global;
 use std::process::Abort;
 use tk_metric::{Metric, Planar, Sub, Table, Triangle, root, root_up};
-use tk_text::{PlaneKind, Point, Points, Problem, Weights};
+use tk_text::{FromRead, PlaneKind, Point, Points, read_problem};
 
-/// Checks the lower bound of the distance of points that differ by this much in x, by each type.
-fn expect_floors(rt: &impl Abort, points: &Points, rows: &[(PlaneKind, u64, i64)]) {
-    for (kind, difference, want) in rows {
-        assert!(rt; *difference <= 2_000_000_000_000_000_000);
-        assert!(rt; planes_of(rt, *kind, points).floor_x(*difference) == *want);
-    }
+/// Checks the lower bound of the distance of points that differ by this much in x.
+fn expect_floor<P: Planar>(rt: &impl Abort, metric: &P, difference: u64, want: i64) {
+    assert!(rt; difference <= 2_000_000_000_000_000_000);
+    assert!(rt; metric.floor_x(difference) == want);
 }
 
 #[test]
 fn floors(rt: HostRuntime) {
     let points = points_of(&rt, rt.alloc(), &[ORIGIN, ORIGIN]);
-    expect_floors(
-        &rt,
-        &points,
-        &[
-            (PlaneKind::Euc2d, 1_500_000_000, 2),
-            (PlaneKind::Ceil2d, 1_000_000_001, 2),
-            (PlaneKind::Man2d, 1_499_999_999, 1),
-            (PlaneKind::Max2d, 2_000_000_000_000_000_000, 2_000_000_000),
-            (PlaneKind::Att, 10_000_000_000, 4),
-        ],
-    );
+    let rows: &[(PlaneKind, u64, i64)] = &[
+        (PlaneKind::Euc2d, 1_500_000_000, 2),
+        (PlaneKind::Ceil2d, 1_000_000_001, 2),
+        (PlaneKind::Man2d, 1_499_999_999, 1),
+        (PlaneKind::Max2d, 2_000_000_000_000_000_000, 2_000_000_000),
+        (PlaneKind::Att, 10_000_000_000, 4),
+    ];
+    for (kind, difference, want) in rows {
+        expect_floor(&rt, &planes_of(&rt, *kind, &points), *difference, *want);
+    }
 }
 
 const WHOLE: Point = Point {
@@ -97,45 +94,32 @@ fn some_of_the_cities(rt: HostRuntime) {
     expect_pairs(&rt, &some, &[(1, 2, 5), (2, 3, 5), (1, 3, 0)]);
 }
 
-/// A problem with the weights of `LOWER`.
-fn explicit(rt: &impl Abort, alloc: Global) -> Problem {
-    let weights = Vec::from_slice(alloc, &LOWER).expect(rt, "memory for weights");
-    assert!(rt; weights.iter().all(|weight| *weight <= 4_000_000_000));
-    Problem {
-        name: Vec::new(alloc),
-        n: 4,
-        weights: Weights::Lower(weights),
-        routing: None,
-    }
-}
-
-/// (0,0) (3,4), MAX_2D
-fn in_the_plane(rt: &impl Abort, alloc: Global) -> Problem {
-    let corner = Point {
-        x: 3_000_000_000,
-        y: 4_000_000_000,
-    };
-    let points = points_of(rt, alloc, &[ORIGIN, corner]);
-    assert!(rt; points.len() == 2);
-    Problem {
-        name: Vec::new(alloc),
-        n: 2,
-        weights: Weights::Points(PlaneKind::Max2d, points),
-        routing: None,
-    }
-}
-
-/// Checks that the table of a problem has this many cities, and this distance.
-fn expect_table(rt: &impl Abort, problem: &Problem, size: u32, row: (u32, u32, i64)) {
-    let table = Table::of(problem);
+/// Checks that the table of the problem of a text has this many cities, and this distance.
+fn expect_table(rt: &impl Abort, alloc: Global, text: &[u8], size: u32, row: (u32, u32, i64)) {
+    let problem = read_problem(alloc, &mut FromRead::new(text)).expect(rt, "a problem");
+    let table = Table::of(&problem);
     assert!(rt; table.size() == size);
     expect_pairs(rt, &table, &[row]);
 }
 
 #[test]
 fn tables(rt: HostRuntime) {
-    expect_table(&rt, &explicit(&rt, rt.alloc()), 4, (4, 2, 5));
-    expect_table(&rt, &in_the_plane(&rt, rt.alloc()), 2, (1, 2, 4));
+    let rows: &[(&[u8], u32, (u32, u32, i64))] = &[
+        (
+            b"TYPE : TSP\nDIMENSION : 4\nEDGE_WEIGHT_TYPE : EXPLICIT\nEDGE_WEIGHT_FORMAT : UPPER_ROW\n\
+            EDGE_WEIGHT_SECTION 1 2 3 4 5 6\n",
+            4,
+            (4, 2, 5),
+        ),
+        (
+            b"TYPE : TSP\nDIMENSION : 2\nEDGE_WEIGHT_TYPE : MAX_2D\nNODE_COORD_SECTION 1 0 0 2 3 4\n",
+            2,
+            (1, 2, 4),
+        ),
+    ];
+    for (text, size, row) in rows {
+        expect_table(&rt, rt.alloc(), text, *size, *row);
+    }
 }
 
 /// Numbers with their roots rounded down and up.

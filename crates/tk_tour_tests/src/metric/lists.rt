@@ -2,7 +2,7 @@
 ghost use Rattle.std.specs.Prelude.{◌≡◌};
 ghost use Rattle.tk_metric.specs.Near.{AreNearest};
 
-use crate::given::near_of;
+use crate::given::{expect_width, near_of};
 use crate::places::{PART, SQUARE, WHOLE, places, planes_of, random_places};
 use std::alloc::Global;
 use std::process::Abort;
@@ -14,7 +14,7 @@ use tk_text::PlaneKind;
 
 /// The near lists of all cities, with k cities each, by a sweep.
 pub fn near_by_sweep<P: Planar>(rt: &impl Abort, alloc: Global, metric: &P, k: u32) -> Near {
-    assert!(rt; 1 <= k && k <= 100 && k < metric.size());
+    expect_width(rt, metric.size(), k);
     near_sweep(alloc, metric, k).expect(rt, "memory for near lists")
 }
 
@@ -24,13 +24,13 @@ fn near_by_tree<P: BothAxes>(rt: &impl Abort, alloc: Global, metric: &P, k: u32)
     ensures width { result.width ≡ k }
     ensures near { AreNearest (P.distance metric.now) result }
 {
-    assert!(rt; 1 <= k && k <= 100 && k < metric.size());
+    expect_width(rt, metric.size(), k);
     near_tree(alloc, metric, k).expect(rt, "memory for near lists")
 }
 
 /// The near lists of a table, with k cities each.
 fn near_of_table(rt: &impl Abort, alloc: Global, planes: Planes<'_>, k: u32) -> Near {
-    assert!(rt; 1 <= k && k <= 100 && k < planes.size());
+    expect_width(rt, planes.size(), k);
     near_lists(alloc, &Table::Planes(planes), k).expect(rt, "memory for near lists")
 }
 
@@ -40,10 +40,7 @@ pub fn expect(rt: &impl Abort, near: &Near, want: &[u32]) {
     assert!(rt; want.len() == near.size() as usize * width);
     for c in 1..near.size() + 1 {
         let from = (c as usize - 1) * width;
-        assert!(rt;
-            want.get(from..from + width) == Some(near.of(c)),
-            "city {c}"
-        );
+        assert!(rt; want.get(from..from + width) == Some(near.of(c)));
     }
 }
 
@@ -51,7 +48,7 @@ pub fn expect(rt: &impl Abort, near: &Near, want: &[u32]) {
 fn expect_same(rt: &impl Abort, near: &Near, other: &Near) {
     assert!(rt; near.size() == other.size());
     for c in 1..near.size() + 1 {
-        assert!(rt; near.of(c) == other.of(c), "city {c}");
+        assert!(rt; near.of(c) == other.of(c));
     }
 }
 

@@ -1,14 +1,14 @@
 //! Examples of searches. The numbers are those of another program, which was written from the rules of the search.
 ghost use Rattle.std.specs.Prelude.{◌≡◌};
 
-use crate::given::{expect_report, near_of, tour_of};
+use crate::given::{expect_report, near_of, tour_of, triangle};
 use crate::places::{WHOLE, places, planes_of};
 use rand_core::SeedableRng;
 use rand_pcg::Pcg32;
 use std::alloc::Global;
 use std::process::Abort;
 use tk_build::{Search, SearchRules, Totals, TrialReport};
-use tk_metric::{Metric, Near, Triangle};
+use tk_metric::{Metric, Near};
 use tk_text::PlaneKind;
 use tk_tour::TourStore;
 
@@ -38,15 +38,63 @@ fn expect_trial(rt: &impl Abort, report: &TrialReport, lengths: [i64; 2], counts
 
 // A search on fewer than 8 cities, which makes a single trial. The counters are those for segments of at most 1, 2 and
 // 3 cities, first without and then with a final sweep.
-#[derive(Clone, Copy)]
 struct Few<'a> {
-    metric: Triangle<'a>,
+    weights: &'a [u32],
     width: u32,
     start: &'a [u32],
     lengths: [i64; 2],
     best: &'a [u32],
-    counts: [[u64; 5]; 6],
+    counts: &'a [[u64; 5]; 6],
 }
+
+const FEW: &[Few<'static>] = &[
+    Few {
+        weights: &[5],
+        width: 1,
+        start: &[1, 2],
+        lengths: [10, 10],
+        best: &[1, 2],
+        counts: &[[0, 2, 4, 0, 1]; 6],
+    },
+    Few {
+        weights: &[3, 4, 5],
+        width: 2,
+        start: &[1, 2, 3],
+        lengths: [12, 12],
+        best: &[1, 2, 3],
+        counts: &[[0, 3, 18, 0, 1]; 6],
+    },
+    Few {
+        weights: &[14, 10, 10, 10, 10, 14],
+        width: 3,
+        start: &[1, 2, 3, 4],
+        lengths: [48, 40],
+        best: &[1, 3, 2, 4],
+        counts: &[
+            [1, 5, 41, 1, 1],
+            [1, 5, 57, 1, 1],
+            [1, 5, 57, 1, 1],
+            [1, 9, 81, 1, 2],
+            [1, 9, 113, 1, 2],
+            [1, 9, 113, 1, 2],
+        ],
+    },
+    Few {
+        weights: &[10, 1, 1, 10, 100, 10, 10, 10, 10, 10],
+        width: 1,
+        start: &[1, 2, 3, 4, 5],
+        lengths: [41, 32],
+        best: &[1, 3, 2, 5, 4],
+        counts: &[
+            [1, 6, 19, 2, 1],
+            [1, 6, 26, 2, 1],
+            [1, 6, 31, 2, 1],
+            [1, 11, 35, 2, 2],
+            [1, 11, 49, 2, 2],
+            [1, 11, 59, 2, 2],
+        ],
+    },
+];
 
 // Checks that a search on few cities makes one trial, and then none.
 fn expect_trials<M: Metric>(rt: &impl Abort, search: &mut Search<M>, few: &Few, counts: [u64; 5]) {
@@ -58,101 +106,44 @@ fn expect_trials<M: Metric>(rt: &impl Abort, search: &mut Search<M>, few: &Few, 
     assert!(rt; search.best() == few.best);
 }
 
-fn expect_trial_and_none(
+// Like `expect_trials`, for a search by these rules.
+fn expect_few_by<M: Metric>(
     rt: &impl Abort,
     alloc: Global,
+    metric: &M,
     near: &Near,
     few: &Few,
     rules: SearchRules,
     counts: [u64; 5],
 )
-    requires { near.now.size ≡ few.now.metric.n }
+    requires { near.now.size ≡ M.size_of metric.now }
 {
-    let mut search = begin(rt, alloc, &few.metric, near, few.start, rules);
+    let mut search = begin(rt, alloc, metric, near, few.start, rules);
     expect_trials(rt, &mut search, few, counts);
 }
 
 fn expect_few(rt: &impl Abort, alloc: Global, few: &Few) {
-    let near = near_of(rt, alloc, &few.metric, few.width);
+    assert!(rt; few.start.len() <= 16);
+    let metric = triangle(rt, few.start.len() as u32, few.weights);
+    let near = near_of(rt, alloc, &metric, few.width);
     for k in 0..6 {
         let rules = SearchRules {
             sweep: 3 <= k,
             or_segment: k as u32 % 3 + 1,
         };
-        expect_trial_and_none(rt, alloc, &near, few, rules, few.counts[k]);
+        expect_few_by(rt, alloc, &metric, &near, few, rules, few.counts[k]);
     }
 }
 
 #[test]
 fn one_trial_on_few_cities(rt: HostRuntime) {
-    let rows = [
-        Few {
-            metric: Triangle {
-                n: 2,
-                weights: &[5],
-            },
-            width: 1,
-            start: &[1, 2],
-            lengths: [10, 10],
-            best: &[1, 2],
-            counts: [[0, 2, 4, 0, 1]; 6],
-        },
-        Few {
-            metric: Triangle {
-                n: 3,
-                weights: &[3, 4, 5],
-            },
-            width: 2,
-            start: &[1, 2, 3],
-            lengths: [12, 12],
-            best: &[1, 2, 3],
-            counts: [[0, 3, 18, 0, 1]; 6],
-        },
-        Few {
-            metric: Triangle {
-                n: 4,
-                weights: &[14, 10, 10, 10, 10, 14],
-            },
-            width: 3,
-            start: &[1, 2, 3, 4],
-            lengths: [48, 40],
-            best: &[1, 3, 2, 4],
-            counts: [
-                [1, 5, 41, 1, 1],
-                [1, 5, 57, 1, 1],
-                [1, 5, 57, 1, 1],
-                [1, 9, 81, 1, 2],
-                [1, 9, 113, 1, 2],
-                [1, 9, 113, 1, 2],
-            ],
-        },
-        Few {
-            metric: Triangle {
-                n: 5,
-                weights: &[10, 1, 1, 10, 100, 10, 10, 10, 10, 10],
-            },
-            width: 1,
-            start: &[1, 2, 3, 4, 5],
-            lengths: [41, 32],
-            best: &[1, 3, 2, 5, 4],
-            counts: [
-                [1, 6, 19, 2, 1],
-                [1, 6, 26, 2, 1],
-                [1, 6, 31, 2, 1],
-                [1, 11, 35, 2, 2],
-                [1, 11, 49, 2, 2],
-                [1, 11, 59, 2, 2],
-            ],
-        },
-    ];
-    for few in &rows {
+    for few in FEW {
         expect_few(&rt, rt.alloc(), few);
     }
 }
 
 // A search in the plane, with the totals after some of its trials: trials, better, moves, gained, tests, swaps,
 // undo_swaps, copied and passes.
-#[derive(Clone, Copy)]
 struct Many<'a> {
     corners: &'a [(u16, u16)],
     width: u32,
@@ -192,9 +183,9 @@ fn totals(start: i64, counts: [u128; 9]) -> Totals {
 
 // After a kick, few cities are awake: there are at most 8 looks, and 6 more for each move, with 4 * 3 * 5 tests each.
 fn expect_few_looks(rt: &impl Abort, report: &TrialReport) {
-    let moves = u128::from(report.descent.moves);
-    assert!(rt; u128::from(report.descent.looks) <= 8 + 6 * moves);
-    assert!(rt; u128::from(report.descent.tests) <= 480 + 360 * moves);
+    let moves = report.descent.moves as u128;
+    assert!(rt; report.descent.looks as u128 <= 8 + 6 * moves);
+    assert!(rt; report.descent.tests as u128 <= 480 + 360 * moves);
 }
 
 // Makes trials up to the one with this number.
@@ -242,40 +233,28 @@ fn expect_many(rt: &impl Abort, alloc: Global, many: &Many) {
     expect_totals(rt, alloc, &metric, &near, many);
 }
 
-#[test]
-fn later_trials_look_at_few_cities(rt: HostRuntime) {
-    let many = Many {
-        corners: &[
-            (0, 0),
-            (1, 0),
-            (2, 0),
-            (3, 0),
-            (4, 0),
-            (5, 0),
-            (6, 0),
-            (7, 0),
-            (8, 0),
-            (9, 0),
-            (10, 0),
-            (11, 0),
-            (12, 0),
-            (13, 0),
-            (14, 0),
-            (15, 0),
-        ],
-        width: 5,
-        start: &[1, 2, 3, 4, 5, 6, 7, 8, 9, 10, 11, 12, 13, 14, 15, 16],
-        length: 30,
-        sweep: false,
-        seed: 1,
-        totals: &[[50, 0, 104, 462, 18535, 456, 456, 0, 50]],
-        best: &[1, 2, 3, 4, 5, 6, 7, 8, 9, 10, 11, 12, 13, 14, 15, 16],
-    };
-    expect_many(&rt, rt.alloc(), &many);
-}
+// Sixteen points in a row.
+const ROW: &[(u16, u16)] = &[
+    (0, 0),
+    (1, 0),
+    (2, 0),
+    (3, 0),
+    (4, 0),
+    (5, 0),
+    (6, 0),
+    (7, 0),
+    (8, 0),
+    (9, 0),
+    (10, 0),
+    (11, 0),
+    (12, 0),
+    (13, 0),
+    (14, 0),
+    (15, 0),
+];
 
 // Nine points; the shortest of all tours has length 34.
-const NINE: [(u16, u16); 9] = [
+const NINE: &[(u16, u16)] = &[
     (1, 4),
     (7, 7),
     (2, 5),
@@ -287,10 +266,19 @@ const NINE: [(u16, u16); 9] = [
     (5, 4),
 ];
 
-#[test]
-fn later_trials_are_taken_undone_or_copied_back(rt: HostRuntime) {
-    let plain = Many {
-        corners: &NINE,
+const MANY: &[Many<'static>] = &[
+    Many {
+        corners: ROW,
+        width: 5,
+        start: &[1, 2, 3, 4, 5, 6, 7, 8, 9, 10, 11, 12, 13, 14, 15, 16],
+        length: 30,
+        sweep: false,
+        seed: 1,
+        totals: &[[50, 0, 104, 462, 18535, 456, 456, 0, 50]],
+        best: &[1, 2, 3, 4, 5, 6, 7, 8, 9, 10, 11, 12, 13, 14, 15, 16],
+    },
+    Many {
+        corners: NINE,
         width: 4,
         start: &[1, 2, 3, 4, 5, 6, 7, 8, 9],
         length: 54,
@@ -308,13 +296,22 @@ fn later_trials_are_taken_undone_or_copied_back(rt: HostRuntime) {
             [12, 2, 39, 136, 3498, 95, 34, 45, 12],
         ],
         best: &[9, 4, 1, 8, 3, 7, 6, 2, 5],
-    };
-    expect_many(&rt, rt.alloc(), &plain);
-    let swept = Many {
+    },
+    Many {
+        corners: NINE,
+        width: 4,
+        start: &[1, 2, 3, 4, 5, 6, 7, 8, 9],
+        length: 54,
         sweep: true,
+        seed: 7,
         totals: &[[12, 2, 36, 102, 7022, 88, 25, 63, 23]],
         best: &[7, 8, 4, 1, 3, 9, 5, 2, 6],
-        ..plain
-    };
-    expect_many(&rt, rt.alloc(), &swept);
+    },
+];
+
+#[test]
+fn later_trials(rt: HostRuntime) {
+    for many in MANY {
+        expect_many(&rt, rt.alloc(), many);
+    }
 }

@@ -1,16 +1,12 @@
 //! Known nearest-neighbour tours.
 
+use crate::given::triangle;
 use crate::places::{SQUARE, WHOLE, places, planes_of};
 use std::alloc::Global;
 use std::process::Abort;
 use tk_build::{nearest, nearest_tour, nearest_tours_agree, nearest_tree};
-use tk_metric::{BothAxes, Metric, Planes, Table, Triangle};
+use tk_metric::{BothAxes, Metric, Planes, Table};
 use tk_text::PlaneKind;
-
-/// Checks that a tour that begins at `start` is this one.
-fn expect_cities(rt: &impl Abort, found: &[u32], start: u32, want: &[u32]) {
-    assert!(rt; found == want, "from {start}: {found:?}");
-}
 
 /// Checks that the tours by a scan and by a tree are this one. They are equal by the law that nearest-neighbour tours
 /// agree.
@@ -25,8 +21,8 @@ fn expect_in_plane<P: BothAxes>(
     let tour = nearest(alloc, metric, start).expect(rt, "memory for a tour");
     let found = nearest_tree(alloc, metric, start).expect(rt, "memory for a tour");
     nearest_tours_agree(metric, start, &tour, &found);
-    expect_cities(rt, &tour, start, want);
-    expect_cities(rt, &found, start, want);
+    assert!(rt; tour.as_slice() == want);
+    assert!(rt; found.as_slice() == want);
 }
 
 /// Checks that the tour of a table is this one.
@@ -34,7 +30,7 @@ fn expect_of_table(rt: &impl Abort, alloc: Global, planes: Planes<'_>, start: u3
     assert!(rt; 1 <= start && start <= planes.size());
     let table = Table::Planes(planes);
     let found = nearest_tour(alloc, &table, start).expect(rt, "memory for a tour");
-    expect_cities(rt, &found, start, want);
+    assert!(rt; found.as_slice() == want);
 }
 
 /// Checks that the tours by a scan, by a tree and of a table are this one.
@@ -62,10 +58,7 @@ fn in_the_plane(rt: HostRuntime) {
 #[test]
 fn by_explicit_weights(rt: HostRuntime) {
     // from 3, cities 1 and 4 are at distance 2, and 2 at 7; from 4, cities 1 and 2 are at 9
-    let metric = Triangle {
-        n: 4,
-        weights: &[5, 2, 7, 9, 9, 2],
-    };
+    let metric = triangle(&rt, 4, &[5, 2, 7, 9, 9, 2]);
     let tours = [[1, 3, 4, 2], [2, 1, 3, 4], [3, 1, 2, 4], [4, 3, 1, 2]];
     for k in 0..4 {
         let tour = nearest(rt.alloc(), &metric, k as u32 + 1).expect(&rt, "memory for a tour");

@@ -1,10 +1,10 @@
 //! Worked examples of the savings algorithm.
 
-use crate::given::near_of;
+use crate::given::{near_of, triangle};
 use std::alloc::Global;
 use std::process::Abort;
 use tk_build::{savings_lists, savings_tour};
-use tk_metric::{Metric, Triangle};
+use tk_metric::Metric;
 
 /// The lists of the savings algorithm, with near lists of all other cities.
 fn lists_of<M: Metric>(
@@ -56,45 +56,35 @@ fn expect_tour<M: Metric>(rt: &impl Abort, alloc: Global, metric: &M, want: &[u3
 /// (0,0) (10,10) (10,0) (0,10), EUC_2D
 #[test]
 fn tour_of_a_square(rt: HostRuntime) {
-    let square = Triangle {
-        n: 4,
-        weights: &[14, 10, 10, 10, 10, 14],
-    };
+    let square = triangle(&rt, 4, &[14, 10, 10, 10, 10, 14]);
     expect_tour(&rt, rt.alloc(), &square, &[1, 3, 2, 4]);
 }
 
-/// (0,0) (10,0) (11,0) (-10,0) (-11,0), EUC_2D: savings 20 for 2-3 and 4-5, and 0 for all others
-#[test]
-fn two_sides_of_the_hub(rt: HostRuntime) {
-    let line = Triangle {
-        n: 5,
-        weights: &[10, 11, 1, 10, 20, 21, 11, 21, 22, 1],
-    };
-    let rows: &[(u64, &[&[u32]])] = &[
-        (2, &[&[2, 3], &[4, 5]]),
-        (4, &[&[2, 3], &[4, 5]]),
-        (1, &[&[2], &[3], &[4], &[5]]),
-    ];
-    expect_lists(&rt, rt.alloc(), &line, 1, &[0, 1, 1, 1, 1], rows);
-}
+/// The distances of cities, a hub, the loads of the cities, and the lists next to each capacity.
+type Row<'a> = (&'a [u32], u32, &'a [u32], &'a [(u64, &'a [&'a [u32]])]);
 
-/// UPPER_ROW 10 10 10 10 / 10 11 11 / 12 19 / 20
-#[test]
-fn one_list_of_four(rt: HostRuntime) {
-    let weights = Triangle {
-        n: 5,
-        weights: &[10, 10, 10, 10, 11, 12, 10, 11, 19, 20],
-    };
-    let rows: &[(u64, &[&[u32]])] = &[(4, &[&[4, 2, 3, 5]])];
-    expect_lists(&rt, rt.alloc(), &weights, 1, &[0, 1, 1, 1, 1], rows);
-}
-
-/// The weights of `one_list_of_four` times 150,000,000: the savings are too large for keys
-#[test]
-fn one_list_of_four_far_apart(rt: HostRuntime) {
-    let weights = Triangle {
-        n: 5,
-        weights: &[
+const ROWS: &[Row<'static>] = &[
+    // (0,0) (10,0) (11,0) (-10,0) (-11,0), EUC_2D: savings 20 for 2-3 and 4-5, and 0 for all others
+    (
+        &[10, 11, 1, 10, 20, 21, 11, 21, 22, 1],
+        1,
+        &[0, 1, 1, 1, 1],
+        &[
+            (2, &[&[2, 3], &[4, 5]]),
+            (4, &[&[2, 3], &[4, 5]]),
+            (1, &[&[2], &[3], &[4], &[5]]),
+        ],
+    ),
+    // UPPER_ROW 10 10 10 10 / 10 11 11 / 12 19 / 20
+    (
+        &[10, 10, 10, 10, 11, 12, 10, 11, 19, 20],
+        1,
+        &[0, 1, 1, 1, 1],
+        &[(4, &[&[4, 2, 3, 5]])],
+    ),
+    // these weights times 150,000,000: the savings are too large for keys
+    (
+        &[
             1_500_000_000,
             1_500_000_000,
             1_500_000_000,
@@ -106,17 +96,19 @@ fn one_list_of_four_far_apart(rt: HostRuntime) {
             2_850_000_000,
             3_000_000_000,
         ],
-    };
-    let rows: &[(u64, &[&[u32]])] = &[(4, &[&[4, 2, 3, 5]])];
-    expect_lists(&rt, rt.alloc(), &weights, 1, &[0, 1, 1, 1, 1], rows);
-}
+        1,
+        &[0, 1, 1, 1, 1],
+        &[(4, &[&[4, 2, 3, 5]])],
+    ),
+    // (10,0) (0,0) (11,0), EUC_2D
+    (&[10, 1, 11], 2, &[1, 0, 1], &[(2, &[&[1, 3]])]),
+];
 
-/// (10,0) (0,0) (11,0), EUC_2D
 #[test]
-fn hub_that_is_not_the_first(rt: HostRuntime) {
-    let line = Triangle {
-        n: 3,
-        weights: &[10, 1, 11],
-    };
-    expect_lists(&rt, rt.alloc(), &line, 2, &[1, 0, 1], &[(2, &[&[1, 3]])]);
+fn lists_around_a_hub(rt: HostRuntime) {
+    for (weights, hub, loads, rows) in ROWS {
+        assert!(rt; loads.len() <= 16);
+        let metric = triangle(&rt, loads.len() as u32, weights);
+        expect_lists(&rt, rt.alloc(), &metric, *hub, loads, rows);
+    }
 }

@@ -1,7 +1,7 @@
 //! A tour in segments equals a tour in an array, flip by flip.
 ghost use Rattle.std.specs.Prelude.{◌<◌};
 
-use crate::given::{first_cities, journal_of, tour_of};
+use crate::given::{expect_two_cities, first_cities, journal_of, tour_of};
 use crate::tours::worked::flip_after;
 use std::alloc::Global;
 use std::process::Abort;
@@ -31,12 +31,7 @@ fn shuffled(rt: &impl Abort, alloc: Global, n: u32, state: &mut u64) -> Vec<u32>
 
 /// Flips the tour between a and c, and the cities before them.
 fn flip_before<S: TourStore>(rt: &impl Abort, tour: &mut S, a: u32, c: u32) -> Flip {
-    let n = tour.size();
-    assert!(rt; 1 <= a);
-    assert!(rt; a <= n);
-    assert!(rt; 1 <= c);
-    assert!(rt; c <= n);
-    assert!(rt; a != c);
+    expect_two_cities(rt, tour.size(), a, c);
     let (b, d) = (tour.prev(a), tour.prev(c));
     tour.flip(a, b, c, d)
 }

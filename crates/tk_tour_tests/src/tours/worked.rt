@@ -1,5 +1,5 @@
 //! Worked examples of tours, and each call once at a concrete type.
-use crate::given::{EIGHT, expect_printed, journal_of, tour_of};
+use crate::given::{EIGHT, expect_printed, expect_two_cities, journal_of, tour_of};
 use std::alloc::Global;
 use std::process::Abort;
 use tk_metric::Triangle;
@@ -7,12 +7,7 @@ use tk_tour::{ArrayTour, Flip, JournalTour, TourFault, TourStore, Verdict, check
 
 /// Reverses the cities from after a to c, or those from after c to a.
 pub fn flip_after<S: TourStore>(rt: &impl Abort, tour: &mut S, a: u32, c: u32) -> Flip {
-    let n = tour.size();
-    assert!(rt; 1 <= a);
-    assert!(rt; a <= n);
-    assert!(rt; 1 <= c);
-    assert!(rt; c <= n);
-    assert!(rt; a != c);
+    expect_two_cities(rt, tour.size(), a, c);
     let (b, d) = (tour.next(a), tour.next(c));
     tour.flip(a, b, c, d)
 }
