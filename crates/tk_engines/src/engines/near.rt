@@ -1,9 +1,12 @@
 //! The near lists of a problem.
 ghost use Rattle.std.specs.Prelude.{◌≤◌, OnErr, IfOk, IfErr};
 ghost use Rattle.tk_problem.specs.declared.limits.TheConstants.{CANDIDATE_LIMIT, CITY_LIMIT};
+ghost use Rattle.tk_distance.specs.Cities.{IsCity};
+ghost use Rattle.tk_near.specs.Near.{near_of};
 ghost use Rattle.tk_problem_text.specs.ProblemOf.{problem_is};
 ghost use Rattle.tk_writers.specs.Pens.{Puts};
 ghost use Rattle.tk_writers.specs.Puts.{Writes};
+ghost use Rattle.tk_writers.specs.Written.{near_line};
 ghost use Rattle.tk_writers.specs.Sinks.{IsBroken};
 ghost use Rattle.tk_engines.specs.Engine.{Ends, HasRead, ReadsProblem, NoText, IsUnwritten, UnlessWrite, AtWrite};
 ghost use Rattle.tk_engines.specs.NearText.{IsNearOf, near_task, near_text};
@@ -26,19 +29,27 @@ fn lists_of(alloc: Global, problem: &Problem, k: u32) -> Result<Near, AllocError
     near_lists(alloc, &Table::of(problem), k.min(problem.n - 1))
 }
 
-/// Writes the near list of each city on a line of its own.
+/// Writes the near list of a city on a line of its own.
+fn put_list<W: Sink>(pen: &mut Pen<'_, W>, near: &Near, city: u32)
+    requires { IsCity near.now.size city }
+    ensures { Puts W.Sink pen.old pen.new (near_line city (near_of near.now city)) }
+{
+    pen.put_number(city as u64);
+    pen.put(b": ");
+    pen.put_spaced(near.of(city));
+    pen.put(b"\n");
+}
+
+/// Writes the near lists of all cities to a pen.
 fn put_lists<W: Sink>(pen: &mut Pen<'_, W>, near: &Near)
     ensures { Puts W.Sink pen.old pen.new (near_text near.now) }
 {
     for city in 1..near.size() + 1 {
-        pen.put_number(city as u64);
-        pen.put(b": ");
-        pen.put_spaced(near.of(city));
-        pen.put(b"\n");
+        put_list(pen, near, city);
     }
 }
 
-/// Writes the near lists of all cities.
+/// Writes the near lists of all cities to a sink.
 fn write_lists<W: Sink>(out: &mut W, near: &Near) -> Result<(), WriteFault>
     requires few { near.now.size ≤ CITY_LIMIT }
     requires narrow { near.now.width ≤ CANDIDATE_LIMIT }

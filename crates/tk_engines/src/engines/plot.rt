@@ -82,17 +82,17 @@ fn picture_of<'a>(problem: &'a Problem, view: View<'a>, subject: Subject<'a>) ->
 fn draw<W: Sink>(
     out: &mut W,
     problem: &Problem,
-    view: View<'_>,
+    view: &View<'_>,
     subject: Subject<'_>,
-    form: Form<'_>,
+    form: &Form<'_>,
 ) -> Result<(), WriteFault>
-    requires view { IsViewOf (problem_is problem.now) view }
+    requires view { IsViewOf (problem_is problem.now) view.now }
     requires fits { Fits problem.now.n subject }
-    ensures text { WritesSome (IsPicture form.entry (problem_is problem.now) (drawing_of subject.entry))
+    ensures text { WritesSome (IsPicture form.now (problem_is problem.now) (drawing_of subject.entry))
         (Writes W.Sink out.old out.new result) }
     ensures failed { OnErr result (IsBroken W.Sink out.new) }
 {
-    write_picture(out, &picture_of(problem, view, subject), form)
+    write_picture(out, &picture_of(problem, *view, subject), *form)
 }
 
 /// Draws a tour, or writes the line with its fault to `told`.
@@ -100,14 +100,14 @@ fn show_tour<W: Sink, T: Sink>(
     out: &mut W,
     told: &mut T,
     problem: &Problem,
-    view: View<'_>,
+    view: &View<'_>,
     cities: &[u32],
     verdict: Verdict,
-    form: Form<'_>,
+    form: &Form<'_>,
 ) -> Result<(), WriteFault>
-    requires view { IsViewOf (problem_is problem.now) view }
+    requires view { IsViewOf (problem_is problem.now) view.now }
     requires verdict { IsVerdict problem.now.n cities.now verdict }
-    ensures text { WritesSome (IsTourOutput form.entry (problem_is problem.now) cities.now verdict)
+    ensures text { WritesSome (IsTourOutput form.now (problem_is problem.now) cities.now verdict)
         (WritesOutput W.Sink T.Sink out.old out.new told.old told.new result) }
     ensures failed { OnErr result (IsBroken W.Sink out.new ⊎ IsBroken T.Sink told.new) }
 {
@@ -125,17 +125,17 @@ fn show_routes<W: Sink, T: Sink>(
     out: &mut W,
     told: &mut T,
     problem: &Problem,
-    view: View<'_>,
+    view: &View<'_>,
     cvrp: &Cvrp<'_>,
     solution: &SolText,
     verdict: RouteVerdict,
-    form: Form<'_>,
+    form: &Form<'_>,
 ) -> Result<(), WriteFault>
-    requires view { IsViewOf (problem_is problem.now) view }
+    requires view { IsViewOf (problem_is problem.now) view.now }
     requires instance { IsInstanceOf problem.now (instance_of cvrp.now) }
     requires verdict { IsRouteVerdict (instance_of cvrp.now) (map (λ r. r.items) solution.now.routes.items)
         solution.now.cost verdict }
-    ensures text { WritesSome (IsRouteOutput form.entry (problem_is problem.now) (instance_of cvrp.now)
+    ensures text { WritesSome (IsRouteOutput form.now (problem_is problem.now) (instance_of cvrp.now)
         (map (λ r. r.items) solution.now.routes.items) verdict)
         (WritesOutput W.Sink T.Sink out.old out.new told.old told.new result) }
     ensures failed { OnErr result (IsBroken W.Sink out.new ⊎ IsBroken T.Sink told.new) }
@@ -158,15 +158,15 @@ fn show_routes<W: Sink, T: Sink>(
 fn plot_tour<C: Source, W: Sink, T: Sink>(
     alloc: Global,
     problem: &Problem,
-    view: View<'_>,
+    view: &View<'_>,
     claim: &mut C,
-    form: Form<'_>,
+    form: &Form<'_>,
     out: &mut W,
     told: &mut T,
 ) -> Result<Plotted, Fault>
-    requires view { IsViewOf (problem_is problem.now) view }
+    requires view { IsViewOf (problem_is problem.now) view.now }
     requires tsp { problem.now.routing ≡ None }
-    ensures { PlotsClaim C.Source W.Sink T.Sink form.entry (problem_is problem.now)
+    ensures { PlotsClaim C.Source W.Sink T.Sink form.now (problem_is problem.now)
         (claim.old, out.old, told.old) (claim.new, out.new, told.new) result }
 {
     let tour = match read_tour(alloc, claim) {
@@ -187,16 +187,16 @@ fn plot_tour<C: Source, W: Sink, T: Sink>(
 fn plot_routes<C: Source, W: Sink, T: Sink>(
     alloc: Global,
     problem: &Problem,
-    view: View<'_>,
+    view: &View<'_>,
     cvrp: &Cvrp<'_>,
     claim: &mut C,
-    form: Form<'_>,
+    form: &Form<'_>,
     out: &mut W,
     told: &mut T,
 ) -> Result<Plotted, Fault>
-    requires view { IsViewOf (problem_is problem.now) view }
+    requires view { IsViewOf (problem_is problem.now) view.now }
     requires instance { IsInstanceOf problem.now (instance_of cvrp.now) }
-    ensures { PlotsClaim C.Source W.Sink T.Sink form.entry (problem_is problem.now)
+    ensures { PlotsClaim C.Source W.Sink T.Sink form.now (problem_is problem.now)
         (claim.old, out.old, told.old) (claim.new, out.new, told.new) result }
 {
     let solution = match read_solution(alloc, claim) {
@@ -216,14 +216,14 @@ fn plot_routes<C: Source, W: Sink, T: Sink>(
 fn plot_claim<C: Source, W: Sink, T: Sink>(
     alloc: Global,
     problem: &Problem,
-    view: View<'_>,
+    view: &View<'_>,
     claim: &mut C,
-    form: Form<'_>,
+    form: &Form<'_>,
     out: &mut W,
     told: &mut T,
 ) -> Result<Plotted, Fault>
-    requires view { IsViewOf (problem_is problem.now) view }
-    ensures { PlotsClaim C.Source W.Sink T.Sink form.entry (problem_is problem.now)
+    requires view { IsViewOf (problem_is problem.now) view.now }
+    ensures { PlotsClaim C.Source W.Sink T.Sink form.now (problem_is problem.now)
         (claim.old, out.old, told.old) (claim.new, out.new, told.new) result }
 {
     match Cvrp::of(problem) {
@@ -239,11 +239,11 @@ fn plot_problem<C: Source, W: Sink, T: Sink>(
     problem: &Problem,
     claim: &mut C,
     has_claim: bool,
-    form: Form<'_>,
+    form: &Form<'_>,
     out: &mut W,
     told: &mut T,
 ) -> Result<Plotted, Fault>
-    ensures ends { EndsByProblem (plot_task form.entry has_claim) (HasRead (problem_is problem.now))
+    ensures ends { EndsByProblem (plot_task form.now has_claim) (HasRead (problem_is problem.now))
         (ReadsClaim has_claim C.Source claim.old claim.new)
         (WritesOutput W.Sink T.Sink out.old out.new told.old told.new) result }
     ensures quiet { IfErr result (UnlessWrite (AreUntouched W.Sink T.Sink out.old out.new told.old told.new)) }
@@ -254,12 +254,12 @@ fn plot_problem<C: Source, W: Sink, T: Sink>(
         return Err(Fault::NoPlaces);
     };
     if !has_claim {
-        let Err(fault) = draw(out, problem, view, Subject::Cities, form) else {
+        let Err(fault) = draw(out, problem, &view, Subject::Cities, form) else {
             return Ok(Plotted::Cities);
         };
         return Err(Fault::Write(fault));
     }
-    plot_claim(alloc, problem, view, claim, form, out, told)
+    plot_claim(alloc, problem, &view, claim, form, out, told)
 }
 
 /// Draws the cities of a problem and, if `has_claim` is true, the tour or the routes of another text. These are checked
@@ -287,7 +287,7 @@ pub fn plot_engine<P: Source, C: Source, W: Sink, T: Sink>(
     ensures unread { IfErr result (BeforeSecond (IsUnread C.Source claim.old claim.new)) }
 {
     match read_problem(alloc, problem) {
-        Ok(problem) => plot_problem(alloc, &problem, claim, has_claim, form, out, told),
+        Ok(problem) => plot_problem(alloc, &problem, claim, has_claim, &form, out, told),
         Err(fault) => Err(Fault::Problem(fault)),
     }
 }

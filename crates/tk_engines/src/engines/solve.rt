@@ -114,6 +114,17 @@ fn solve_tsp<F: Sink, W: Sink, V: Watch>(
     }
 }
 
+/// The options of a search for routes, as the parameters specify them.
+fn route_options(params: &Params) -> RouteOptions
+    ensures candidates { result.candidates ≡ params.now.max_candidates }
+    ensures segment { result.or_segment ≡ params.now.or_segment }
+{
+    RouteOptions {
+        candidates: params.max_candidates(),
+        or_segment: params.or_segment(),
+    }
+}
+
 /// Searches for short routes of a CVRP, and writes them and the lines on them.
 fn solve_cvrp<F: Sink, W: Sink>(
     alloc: Global,
@@ -127,11 +138,7 @@ fn solve_cvrp<F: Sink, W: Sink>(
         (AreUntouched F.Sink W.Sink file.old file.new out.old out.new) result }
     ensures failed { IfErr result (AtWrite (IsBroken F.Sink file.new ⊎ IsBroken W.Sink out.new)) }
 {
-    let options = RouteOptions {
-        candidates: params.max_candidates(),
-        or_segment: params.or_segment(),
-    };
-    let Ok((routes, report)) = solve_routes(alloc, cvrp, options) else {
+    let Ok((routes, report)) = solve_routes(alloc, cvrp, route_options(params)) else {
         return Err(Fault::NoMemory);
     };
     match write_route_files(file, out, params, &routes, &report) {

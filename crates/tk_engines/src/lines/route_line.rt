@@ -33,8 +33,7 @@ fn put_cost_line<W: Sink>(pen: &mut Pen<'_, W>, read: u64, counted: u64)
 {
     put_labelled(pen, b"wrong cost: ", read);
     put_labelled(pen, b" read, ", counted);
-    pen.put(b" counted");
-    pen.put(b"\n");
+    pen.put(b" counted\n");
 }
 
 /// Writes the line with a verdict on routes to a pen.

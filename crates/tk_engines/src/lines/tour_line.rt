@@ -38,8 +38,7 @@ fn put_count_line<W: Sink>(pen: &mut Pen<'_, W>, wanted: u32, read: usize)
 {
     put_labelled(pen, b"wrong count: ", wanted as u64);
     put_labelled(pen, b" wanted, ", read as u64);
-    pen.put(b" read");
-    pen.put(b"\n");
+    pen.put(b" read\n");
 }
 
 /// Writes the line of a fault of the city at a position, counted from 1.

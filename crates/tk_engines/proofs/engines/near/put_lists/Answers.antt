@@ -9,9 +9,7 @@ pub loop-city-preserved : goal.loop-city-preserved
 loop-city-preserved g c =
     let near = c.args.near.now in
     rw (lines_more (λ x. near_line x (near_of near x)) c.loop-city.city c.loop-city.auto.city)
-    (Puts-then c.loop-city.invariant
-    (Puts-then (Puts-then (Puts-then c.put_number.ensures c.put.ensures)
-    (rw c.of.ensures.value at c.put_spaced.ensures)) c.put-in-loop-city.ensures))
+    (Puts-then c.loop-city.invariant c.put_list.ensures)
 
 pub returns : goal.returns
 returns g c =

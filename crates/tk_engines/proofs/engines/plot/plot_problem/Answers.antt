@@ -10,7 +10,7 @@ use Rattle.tk_engines.proofs.engines.plot.plot_problem.Goals.{After-draw}
 
 -- where nothing is claimed, the cities are drawn
 drawn : (g : Over) (c : After-draw g) →
-    IsGiven (plot_task c.args.form c.args.has_claim) (HasRead (problem_is c.args.problem.now))
+    IsGiven (plot_task c.args.form.now c.args.has_claim) (HasRead (problem_is c.args.problem.now))
     (ReadsClaim c.args.has_claim g.C.Source c.args.claim.now c.args.claim.now)
     (WritesOutput g.W.Sink g.T.Sink c.args.out.now c.draw.new.out c.args.told.now c.args.told.now c.draw.result)
     plotted.Cities

@@ -18,7 +18,7 @@ use Rattle.tk_engines.proofs.engines.plot.plot_routes.Goals.{In-Ok, After-show_r
 
 -- the problem fits, and the routes that were read are claimed of it
 claimed : (g : Over) (c : In-Ok g) →
-    AreRead (plot_task c.args.form true) (HasRead (problem_is c.args.problem.now))
+    AreRead (plot_task c.args.form.now true) (HasRead (problem_is c.args.problem.now))
     (ReadsClaim true g.C.Source c.args.claim.now c.read_solution.new.source (problem_is c.args.problem.now))
     (problem_is c.args.problem.now) (RoutesClaim (as_solution c.in-Ok.solution))
 claimed g c = record {
@@ -29,7 +29,7 @@ claimed g c = record {
 
 -- the verdict on them is given, and what goes with it is written
 given : (g : Over) (c : After-show_routes g) →
-    IsGiven (plot_task c.args.form true) (HasRead (problem_is c.args.problem.now))
+    IsGiven (plot_task c.args.form.now true) (HasRead (problem_is c.args.problem.now))
     (ReadsClaim true g.C.Source c.args.claim.now c.read_solution.new.source)
     (WritesOutput g.W.Sink g.T.Sink c.args.out.now c.show_routes.new.out c.args.told.now c.show_routes.new.told
     c.show_routes.result) (plotted.Routes c.in-Ok-check_routes.verdict)
@@ -46,7 +46,7 @@ given g c =
       together = refl;
       gives = some_instance_read p (instance_of c.args.cvrp.now)
           (λ i. IsRouteVerdict i routes c.in-Ok.solution.cost verdict
-          × IsRouteOutput c.args.form (problem_is p) i routes verdict shown.0) c.requires.instance
+          × IsRouteOutput c.args.form.now (problem_is p) i routes verdict shown.0) c.requires.instance
           (c.in-Ok-check_routes.ensures, shown.1.0);
       written = shown.1.1;
     }

@@ -12,7 +12,7 @@ use Rattle.tk_engines.proofs.engines.plot.plot_tour.Goals.{In-Ok, After-show_tou
 
 -- the problem fits, and the tour that was read is claimed of it
 claimed : (g : Over) (c : In-Ok g) →
-    AreRead (plot_task c.args.form true) (HasRead (problem_is c.args.problem.now))
+    AreRead (plot_task c.args.form.now true) (HasRead (problem_is c.args.problem.now))
     (ReadsClaim true g.C.Source c.args.claim.now c.read_tour.new.source (problem_is c.args.problem.now))
     (problem_is c.args.problem.now) (TourClaim c.in-Ok.tour.cities.items)
 claimed g c = record {
@@ -23,7 +23,7 @@ claimed g c = record {
 
 -- the verdict on it is given, and what goes with it is written
 given : (g : Over) (c : After-show_tour g) →
-    IsGiven (plot_task c.args.form true) (HasRead (problem_is c.args.problem.now))
+    IsGiven (plot_task c.args.form.now true) (HasRead (problem_is c.args.problem.now))
     (ReadsClaim true g.C.Source c.args.claim.now c.read_tour.new.source)
     (WritesOutput g.W.Sink g.T.Sink c.args.out.now c.show_tour.new.out c.args.told.now c.show_tour.new.told
     c.show_tour.result) (plotted.Tour c.in-Ok-check.verdict)

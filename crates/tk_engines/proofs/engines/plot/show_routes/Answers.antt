@@ -23,13 +23,13 @@ returns-in-Valid-clause-text g c =
     let count = c.in-Valid.routes in
     let cost : c.unsigned_abs.result ≡ unsigned_abs c.in-Valid.cost = search rules in
     let told = rw c.deref.ensures.value at c.draw.ensures.text in
-    let drawn = subst (λ (n : ℕ). IsPicture c.args.form (problem_is p)
+    let drawn = subst (λ (n : ℕ). IsPicture c.args.form.now (problem_is p)
     (SomeRoutes i (map (λ r. r.items) c.args.solution.now.routes.items) count n) told.0) cost told.1.0 in
     rw c.in-Valid.is (Drawn told.0, (drawn, (told.1.1, (refl, refl))))
 
 pub returns-in_default-clause-text : goal.returns-in_default-clause-text
 returns-in_default-clause-text g c =
-    let told = routes_told c.args.form c.args.problem.now (instance_of c.args.cvrp.now)
+    let told = routes_told c.args.form.now c.args.problem.now (instance_of c.args.cvrp.now)
     (map (λ r. r.items) c.args.solution.now.routes.items) c.args.verdict c.in_default.not-Valid in
     (Refused _, (told, ((refl, refl), c.write_route_verdict.ensures.text)))
 

@@ -14,10 +14,10 @@ returns-in-Tour-clause-text g c =
     let cities = c.args.cities.now in
     let size = c.length_of-length.ensures ∙ length_read p cities in
     let told = c.draw.ensures.text in
-    let drawn = subst (λ (n : ℕ). IsPicture c.args.form (problem_is p) (ATour cities n) told.0) size told.1.0 in
+    let drawn = subst (λ (n : ℕ). IsPicture c.args.form.now (problem_is p) (ATour cities n) told.0) size told.1.0 in
     rw c.in-Tour.is (Drawn told.0, (drawn, (told.1.1, (refl, refl))))
 
 pub returns-in_default-clause-text : goal.returns-in_default-clause-text
 returns-in_default-clause-text g c =
-    let told = tour_told c.args.form c.args.problem.now c.args.cities.now c.args.verdict c.in_default.not-Tour in
+    let told = tour_told c.args.form.now c.args.problem.now c.args.cities.now c.args.verdict c.in_default.not-Tour in
     (Refused _, (told, ((refl, refl), c.write_verdict.ensures.text)))

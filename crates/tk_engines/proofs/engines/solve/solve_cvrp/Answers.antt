@@ -14,7 +14,7 @@ found : (g : Over) (c : After-write_route_files g) → AreRoutesOf c.args.params
 found g c = record {
   routes = routes_of c.in-Ok.routes;
   report = c.in-Ok.report;
-  are = rw (← c.max_candidates.ensures.value, ← c.or_segment.ensures.value) c.in-Ok.ensures;
+  are = rw (← c.route_options.ensures.candidates, ← c.route_options.ensures.segment) c.in-Ok.ensures;
   written = refl;
 }
 
