@@ -1,4 +1,3 @@
-pub mod Finding
 pub mod HeaderRecords
 pub mod KeptHeaders
 pub mod PartEnds

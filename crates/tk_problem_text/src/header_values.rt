@@ -56,12 +56,10 @@ pub fn weight_type_of(value: &Scan) -> Option<WeightType>
 fn plane_of(value: &Scan) -> Option<PlaneKind>
     ensures { (v : List ℕ) → Scans value.now v → result ≡ Values.plane_of v }
 {
-    for kind in &PLANE_KINDS {
-        if value.is(kind.word().as_bytes()) {
-            return Some(*kind);
-        }
-    }
-    None
+    PLANE_KINDS
+        .iter()
+        .copied()
+        .find(|kind| value.is(kind.word().as_bytes()))
 }
 
 /// The value of EDGE_WEIGHT_FORMAT; `None` if it is not supported.
@@ -80,12 +78,10 @@ pub fn weight_format_of(value: &Scan) -> Option<WeightFormat>
 fn format_of(value: &Scan) -> Option<Format>
     ensures { (v : List ℕ) → Scans value.now v → result ≡ Values.format_of v }
 {
-    for format in &FORMATS {
-        if value.is(format.word().as_bytes()) {
-            return Some(*format);
-        }
-    }
-    None
+    FORMATS
+        .iter()
+        .copied()
+        .find(|format| value.is(format.word().as_bytes()))
 }
 
 /// Whether a value of NODE_COORD_TYPE is supported.
