@@ -11,7 +11,7 @@ use crate::written::{Kept, check_written, note_slips};
 use std::process::ExitCode;
 use tk_command_line::{SearchOptions, Shown};
 use tk_engines::{Fault, solve_engine};
-use tk_params::read_params;
+use tk_params::{ParamKind, read_params};
 use tk_words::{FromRead, Source, TextKind};
 use tk_writers::{Sink, ToWrite};
 
@@ -37,9 +37,10 @@ fn solve_parameters(rt: &HostRuntime, file: &str, shown: Shown) -> ExitCode {
     let parameters_id = parameters.id(rt);
     match read_params(rt.alloc(), &mut FromRead::new(parameters)) {
         Ok(params) => solve(rt, &Search::by_keys(file, &params), parameters_id, shown),
-        Err(fault) if parameters_id.is_some() && is_problem_file(rt, file) => {
-            report::problem_for_parameters(rt, file, &fault)
-        }
+        Err(fault)
+            if fault.kind == ParamKind::UnknownKey
+                && parameters_id.is_some()
+                && is_problem_file(rt, file) => { report::problem_for_parameters(rt, file, &fault) }
         Err(fault) => report::param_fault(rt, file, &fault),
     }
 }
