@@ -185,18 +185,16 @@ fn with_explanation(rt: &HostRuntime, file: &str) -> ExitCode {
     ExitCode::from(USAGE)
 }
 
-/// Reports the fault of a problem file that was read as a parameter file, on a terminal with a tip that names the
+/// Reports, on a terminal, the fault of a problem file that was read as a parameter file, with a tip that names the
 /// option for a search.
 pub fn problem_for_parameters(rt: &HostRuntime, file: &str, fault: &ParamFault) -> ExitCode {
     let shown = shown_name(rt, file);
+    let (stem, ending) = output_for(file);
+    let stem = shown_name(rt, stem);
     let _ = eprintln!(rt; "tourkit: {shown}:{fault}");
-    if rt.stderr().is_terminal() {
-        let (stem, ending) = output_for(file);
-        let stem = shown_name(rt, stem);
-        let _ = eprintln!(rt;
-            "tourkit: tip: this is a problem file; 'tourkit solve {shown} -o {stem}{ending}' searches for a solution"
-        );
-    }
+    let _ = eprintln!(rt;
+        "tourkit: tip: this is a problem file; 'tourkit solve {shown} -o {stem}{ending}' searches for a solution"
+    );
     ExitCode::from(USAGE)
 }
 

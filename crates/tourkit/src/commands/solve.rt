@@ -8,10 +8,11 @@ use crate::report;
 use crate::search::Search;
 use crate::watching::SearchWatch;
 use crate::written::{Kept, check_written, note_slips};
+use std::io::IsTerminal;
 use std::process::ExitCode;
-use tk_command_line::{SearchOptions, Shown};
+use tk_command_line::{STANDARD, SearchOptions, Shown};
 use tk_engines::{Fault, solve_engine};
-use tk_params::{ParamKind, read_params};
+use tk_params::{ParamFault, ParamKind, read_params};
 use tk_words::{FromRead, Source, TextKind};
 use tk_writers::{Sink, ToWrite};
 
@@ -37,12 +38,21 @@ fn solve_parameters(rt: &HostRuntime, file: &str, shown: Shown) -> ExitCode {
     let parameters_id = parameters.id(rt);
     match read_params(rt.alloc(), &mut FromRead::new(parameters)) {
         Ok(params) => solve(rt, &Search::by_keys(file, &params), parameters_id, shown),
-        Err(fault)
-            if fault.kind == ParamKind::UnknownKey
-                && parameters_id.is_some()
-                && is_problem_file(rt, file) => { report::problem_for_parameters(rt, file, &fault) }
+        Err(fault) if is_problem(rt, file, parameters_id, &fault) => {
+            report::problem_for_parameters(rt, file, &fault)
+        }
         Err(fault) => report::param_fault(rt, file, &fault),
     }
+}
+
+/// Returns whether a file that was read as a parameter file is a problem file. This decides only whether a tip is
+/// printed, so the file is read again only for a terminal, and standard input is not.
+fn is_problem(rt: &HostRuntime, file: &str, id: Option<FileId>, fault: &ParamFault) -> bool {
+    rt.stderr().is_terminal()
+        && file != STANDARD
+        && fault.kind == ParamKind::UnknownKey
+        && id.is_some()
+        && is_problem_file(rt, file)
 }
 
 /// Runs the search that options specify.
