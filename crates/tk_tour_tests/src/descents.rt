@@ -4,14 +4,16 @@ ghost use Rattle.tk_descent.specs.Steps.{AreTrueOf};
 ghost use Rattle.tk_tour.specs.ArrayTours.{order_of};
 ghost use Rattle.tk_tour.specs.Tour.{tour_length};
 
-use crate::given::{all_awake, expect_printed, expect_report, near_of, tour_of, triangle};
+use crate::given::{
+    all_awake, expect_printed, expect_report, journal_of, near_of, tour_of, triangle,
+};
 use std::alloc::{AllocError, Global};
 use std::process::Abort;
 use tk_descent::{
     Gains, Probe, Report, Steps, Waking, descend, descend_swept, is_local_optimum, look, make,
 };
 use tk_metric::{Metric, Near};
-use tk_tour::{ArrayTour, TourStore, length};
+use tk_tour::{ArrayTour, JournalTour, TourStore, length};
 
 /// Gains that wrap others, with the look that is the default of `Gains`.
 #[derive(Drop)]
@@ -294,49 +296,30 @@ fn crossed_square_asleep(rt: HostRuntime) {
     expect_nothing_done(&rt, rt.alloc(), &square, &mut tour, &near);
 }
 
-/// Makes a descent of a tour by gains with the default look.
-fn descend_plainly<M: Metric>(
-    rt: &impl Abort,
-    alloc: Global,
-    metric: &M,
-    tour: &mut ArrayTour,
-    near: &Near,
-) -> Report
-    requires metric { M.size_of metric.now ≡ length (order_of tour.old) }
-    requires near { near.now.size ≡ length (order_of tour.old) }
-{
-    let before = length_of(metric, tour);
-    descend_awake(
-        rt,
-        alloc,
-        tour,
-        &mut Plain(Probe::new(metric)),
-        near,
-        2,
-        before,
-    )
-}
-
+/// Checks a descent of a tour with a journal, by gains with the default look.
 fn expect_plain_descent<M: Metric>(
     rt: &impl Abort,
     alloc: Global,
     metric: &M,
-    tour: &mut ArrayTour,
+    tour: &mut JournalTour<ArrayTour>,
     near: &Near,
 )
     requires near { near.now.size ≡ M.size_of metric.now }
 {
     assert!(rt; tour.size() == metric.size());
-    let report = descend_plainly(rt, alloc, metric, tour, near);
+    let before = length_of(metric, tour.tour());
+    let mut gains = Plain(Probe::new(metric));
+    let report = descend_awake(rt, alloc, tour, &mut gains, near, 2, before);
     expect_report(rt, &report, [29, 19], [3, 9, 71, 4]);
-    expect_printed(rt, alloc, tour, &[1, 3, 2, 5, 4]);
+    expect_printed(rt, alloc, tour.tour(), &[1, 3, 2, 5, 4]);
 }
 
 #[test]
-fn plain_gains(rt: HostRuntime) {
+fn journal_by_plain_gains(rt: HostRuntime) {
     let metric = triangle(&rt, 5, UNEVEN);
     let near = near_of(&rt, rt.alloc(), &metric, 2);
-    let mut tour = tour_of(&rt, rt.alloc(), &[1, 2, 3, 4, 5]);
+    let tour = tour_of(&rt, rt.alloc(), &[1, 2, 3, 4, 5]);
+    let mut tour = journal_of(&rt, rt.alloc(), tour, 9);
     expect_plain_descent(&rt, rt.alloc(), &metric, &mut tour, &near);
 }
 
