@@ -1,5 +1,6 @@
 pub mod Complete
 pub mod Count
+pub mod Gaining
 pub mod Listed
 pub mod Made
 pub mod MadeOnCycle

@@ -3,19 +3,23 @@
 --     Descent      a descent from one stand to another, with its report
 --     Sweeping      descents with all cities awake, until one makes no move, with their report
 --     IsDescent, IsSweeping      the same of a tour, its waking cities and gains
+--     DescentUnder, IsDescentUnder      a descent under a rule, by which not every offer may be made
 --     AreOfSize      gains, near lists and waking cities that go with a tour
-use Rattle.std.specs.Prelude.{◌≡◌, ℕ, ◌+◌, ◌-◌, ◌*◌, ◌/◌, ◌≤◌, ◌-ℤ◌, List, [], length, pos}
+use Rattle.std.specs.Prelude.{◌≡◌, ℕ, ◌+◌, ◌-◌, ◌*◌, ◌/◌, ◌≤◌, ◌-ℤ◌, Bool, List, [], length, pos}
 use Rattle.std.specs.Int.RustNames.{unsigned_abs}
 use Rattle.tk_near.specs.Near.{NearLists, near_of}
 use Rattle.tk_tour.specs.Counters.{saturated}
 use Rattle.tk_tour.specs.Tour.{tour_length, IsTour}
 use Rattle.tk_tour.specs.declared.store.TourStore as stores
 use Rattle.tk_descent.specs.Awake.{Awake}
-use Rattle.tk_descent.specs.Machine.{Run, IsRun}
+use Rattle.tk_descent.specs.Machine.{RunUnder, IsRunUnder}
 use Rattle.tk_descent.specs.Sweeps.{Sweeps, AreSweeps}
-use Rattle.tk_descent.specs.WakeMachine.{Wakes, IsLocalOptimum}
+use Rattle.tk_descent.specs.WakeMachine.{WakesUnder, IsLocalOptimum, each_cycle}
 use Rattle.tk_descent.specs.declared.descent.Report.{Report}
 use Rattle.tk_descent.specs.declared.gains.Gains as gains
+use Rattle.tk_descent.specs.declared.offer.Offer.{Offer}
+use Rattle.tk_descent.specs.declared.rule.Rule as rules
+use Rattle.tk_descent.specs.Offers.{everything}
 use Rattle.tk_descent.specs.declared.sweep.SweptReport.{SweptReport}
 
 -- what a descent goes by: distances, near lists, and the greatest number of cities that an Or-move moves
@@ -49,15 +53,21 @@ pub record IsReported (by : Terms) (from to : Stand) (looks : ℕ) (report : Rep
   pub flips_most : to.flips ≤ from.flips + 3 * report.moves
   pub rises : (from.tests ≤ to.tests) × (from.swaps ≤ to.swaps)
 
--- A descent ends with a tour of the same cities, and with none awake. Counts of tests stand still at 2^64 - 1.
-pub record Descent (by : Terms) (from to : Stand) (report : Report) : Type 0 where
-  pub run : (tests : ℕ) × Run by.distance (near_of by.near) by.or_segment from.tour from.awake to.tour []
+-- A descent ends with a tour of the same cities that fits, and with no city awake. Tests saturate at 2^64 - 1.
+pub record DescentUnder (fits : List ℕ → Type 0) (may : List ℕ → Offer → Bool) (by : Terms) (from to : Stand)
+    (report : Report) : Type 0 where
+  pub run : (tests : ℕ) × RunUnder may by.distance (near_of by.near) by.or_segment from.tour from.awake to.tour []
       report.looks report.moves tests × (to.tests ≡ saturated (from.tests + tests))
-  pub fresh : from.tests ≡ 0 → IsRun by.distance by.near by.or_segment from.tour from.awake to.tour [] report
-  pub wakes : Wakes by.distance (near_of by.near) by.or_segment from.tour from.awake to.tour []
+  pub fresh : from.tests ≡ 0 → IsRunUnder may by.distance by.near by.or_segment from.tour from.awake to.tour [] report
+  pub wakes : WakesUnder fits by.distance (near_of by.near) by.or_segment from.tour from.awake to.tour []
   pub asleep : to.awake ≡ []
   pub tour : IsTour (length from.tour) to.tour
+  pub fitting : fits to.tour
   pub reported : IsReported by from to (length from.awake) report
+
+-- a descent of the TSP
+abbrev pub Descent : Terms → Stand → Stand → Report → Type 0
+Descent = DescentUnder each_cycle everything
 
 -- Descents with all cities awake end with a local optimum, and with no city awake.
 pub record Sweeping (by : Terms) (from to : Stand) (report : SweptReport) : Type 0 where
@@ -79,6 +89,14 @@ stand store tour waking tests = record {
   swaps = store.swap_count tour;
   flips = store.flip_count tour;
 }
+
+-- a descent by gains and near lists under a rule, from a tour, its waking cities and gains to others
+abbrev pub IsDescentUnder : {S G R : Type 0} → stores.Ghosts S → gains.Ghosts G → rules.Ghosts R → R → NearLists → ℕ →
+    S × Awake × G → S × Awake × G → Report → Type 0
+IsDescentUnder store gains ruling rule near or_segment (tour, waking, made) (tour', waking', made') =
+    DescentUnder (ruling.Fits rule) (ruling.allowed rule)
+    (record { distance = gains.distance made; near = near; or_segment = or_segment })
+    (stand store tour waking (gains.test_count made)) (stand store tour' waking' (gains.test_count made'))
 
 -- a descent by gains and near lists, from a tour, its waking cities and gains to others
 abbrev pub IsDescent : {S G : Type 0} → stores.Ghosts S → gains.Ghosts G → NearLists → ℕ → S × Awake × G →

@@ -4,6 +4,7 @@ pub mod Looks
 pub mod Machine
 pub mod Offers
 pub mod ProbeSteps
+pub mod Ruled
 pub mod Sharing
 pub mod Steps
 pub mod Sweeps

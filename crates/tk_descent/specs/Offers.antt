@@ -3,8 +3,10 @@
 --     Makes m o old new      the result of the offer's move
 --     offers C m near x      the offers of x on the cycle C
 --     first_gain dist os, tests_to dist os      the first with positive gain, and how many are tested up to it
+--     first_allowed dist may os, tests_until dist may os      the same of the first with positive gain that may be made
 use Rattle.std.specs.Prelude.{◌≡◌, ℕ, suc, ℤ, pos, ◌-ℤ◌, ◌+◌, Bool, take, option_map, IfSome, ◌||◌, ◌&&◌, nat_lt}
-use Rattle.std.specs.Prelude.{nat_le, List, [], ◌∷◌, ◌++◌, ◌==◌, if◌then◌else◌, length, Option, Some, None, flat_map}
+use Rattle.std.specs.Prelude.{nat_le, List, [], ◌∷◌, ◌++◌, ◌==◌, if◌then◌else◌, length, true, Option, Some, None}
+use Rattle.std.specs.Prelude.{flat_map}
 use Rattle.tk_distance.specs.Cities.{IsCity}
 use Rattle.tk_near.specs.Near.{NearLists, near_of}
 use Rattle.tk_tour.specs.Counters.{saturated}
@@ -94,24 +96,46 @@ offers_between C m x =
 abbrev pub offers : List ℕ → ℕ → List ℕ → ℕ → List Offer
 offers C m near x = flat_map (offers_between C m x) near
 
+-- the offer may be made, and has positive gain
+abbrev pub is_taken : (ℕ → ℕ → ℕ) → (Offer → Bool) → Offer → Bool
+is_taken dist may o = may o && improves dist o
+
+-- the first with positive gain that may be made
+abbrev pub first_allowed : (ℕ → ℕ → ℕ) → (Offer → Bool) → List Offer → Option Offer
+first_allowed dist may [] = None
+first_allowed dist may (o ∷ os) = if is_taken dist may o then Some o else first_allowed dist may os
+
+-- its place, or the length of the list
+abbrev pub tests_until : (ℕ → ℕ → ℕ) → (Offer → Bool) → List Offer → ℕ
+tests_until dist may [] = 0
+tests_until dist may (o ∷ os) = if is_taken dist may o then 1 else suc (tests_until dist may os)
+
+-- each offer may be made
+abbrev pub any : Offer → Bool
+any o = true
+
+-- on each cycle
+abbrev pub everything : List ℕ → Offer → Bool
+everything C = any
+
 abbrev pub first_gain : (ℕ → ℕ → ℕ) → List Offer → Option Offer
-first_gain dist [] = None
-first_gain dist (o ∷ os) = if improves dist o then Some o else first_gain dist os
+first_gain dist os = first_allowed dist any os
 
 -- the place of the first with positive gain, or the length of the list
 abbrev pub tests_to : (ℕ → ℕ → ℕ) → List Offer → ℕ
-tests_to dist [] = 0
-tests_to dist (o ∷ os) = if improves dist o then 1 else suc (tests_to dist os)
+tests_to dist os = tests_until dist any os
 
 -- the offers of x on a cycle, with the cities of its near list
 abbrev pub offers_at : List ℕ → ℕ → NearLists → ℕ → List Offer
 offers_at C m near x = offers C m (near_of near x) x
 
--- a search of a list that ends at its first offer with positive gain; t and u are the tests before and after
-pub record Searched (dist : ℕ → ℕ → ℕ) (os : List Offer) (r : Option Found) (t u : ℕ) : Type 0 where
-  pub found : option_map (λ f. f.offer) r ≡ first_gain dist os
+-- A search of a list that ends at its first offer with positive gain that may be made; t and u are the tests before and
+-- after.
+pub record Searched (dist : ℕ → ℕ → ℕ) (may : Offer → Bool) (os : List Offer) (r : Option Found) (t u : ℕ) :
+    Type 0 where
+  pub found : option_map (λ f. f.offer) r ≡ first_allowed dist may os
   pub worth : IfSome r (λ f. f.gain ≡ gain dist f.offer)
-  pub tests : u ≡ saturated (t + tests_to dist os)
+  pub tests : u ≡ saturated (t + tests_until dist may os)
 
 abbrev pub IsSegmentIn : ℕ → Segment → Type 0
 IsSegmentIn n s = IsCity n s.before × IsCity n s.last × IsCity n s.after

@@ -3,12 +3,13 @@ ghost use Rattle.std.specs.Prelude.{◌≡◌, pos, ◌+◌, ◌*◌, ◌≤◌,
 ghost use Rattle.tk_tour.specs.Tour.{tour_length};
 ghost use Rattle.tk_descent.specs.Offers.{ends, EndsIn};
 ghost use Rattle.tk_descent.specs.Awake.{woken_each};
-ghost use Rattle.tk_descent.specs.Descents.{IsDescent, AreOfSize, saved};
+ghost use Rattle.tk_descent.specs.Descents.{IsDescent, IsDescentUnder, AreOfSize, saved};
 
 use crate::gains::Gains;
 use crate::making::make;
 use crate::offer::Offer;
 use crate::on_tour::size;
+use crate::rule::{Everything, Rule};
 use crate::waking::Waking;
 use tk_near::Near;
 use tk_tour::TourStore;
@@ -54,10 +55,62 @@ fn wake_ends(waking: &mut Waking, offer: &Offer)
     }
 }
 
+/// A descent under a rule: looks at the waking cities in turn, first in, first out. A look finds the first offer with
+/// positive gain that the rule allows. Its move is then made, and the ends of the move are woken. The descent ends when
+/// no city is awake.
+///
+/// `or_segment` is the greatest length of a segment that an Or-move moves, and `before` the length of the tour.
+pub fn descend_under<S: TourStore, G: Gains, R: Rule>(
+    tour: &mut S,
+    gains: &mut G,
+    rule: &R,
+    near: &Near,
+    waking: &mut Waking,
+    or_segment: u32,
+    before: i64,
+) -> Report
+    requires fits { AreOfSize (length (S.cities tour.old)) (G.size_of gains.old) near.now.size waking.old.size }
+    requires most { (1 ≤ or_segment) × (or_segment ≤ 3) }
+    requires before { before ≡ pos (tour_length (G.distance gains.old) (S.cities tour.old)) }
+    requires tour { R.Fits rule.now (S.cities tour.old) }
+    ensures descent { IsDescentUnder S.TourStore G.Gains R.Rule rule.now near.now or_segment
+        (tour.old, waking.old, gains.old) (tour.new, waking.new, gains.new) result }
+    ensures headline { result.tests
+        ≤ 4 * or_segment * near.now.width * (length (S.cities tour.old) + 6 * saved result) }
+    ensures flips_only { S.FlipsOnly tour.old tour.new }
+    ensures stored { length near.now.entries ≡ length (S.cities tour.old) * near.now.width }
+    ensures table { (G.distance gains.new ≡ G.distance gains.old) × (G.size_of gains.new ≡ G.size_of gains.old) }
+    ensures sizes { (length (S.cities tour.new) ≡ length (S.cities tour.old)) × (waking.new.size ≡ waking.old.size) }
+{
+    let (tests, swaps) = (gains.tests(), tour.swaps());
+    let (_cities, _awake, _candidates) = (size(tour), waking.len(), near.width());
+    let mut after = before;
+    let mut moves = 0;
+    let mut looks = 0;
+    while let Some(x) = waking.take() {
+        looks += 1;
+        if let Some(found) = gains.find_offer(tour, rule, near, or_segment, x) {
+            make(tour, &found.offer);
+            wake_ends(waking, &found.offer);
+            after -= found.gain;
+            moves += 1;
+        }
+    }
+    Report {
+        before,
+        after,
+        moves,
+        looks,
+        tests: gains.tests() - tests,
+        swaps: tour.swaps() - swaps,
+    }
+}
+
 /// Looks at the waking cities in turn, first in first out. Where a look finds an offer its move is made and the ends of
 /// the move are woken. It ends when no city is awake.
 ///
 /// `or_segment` is the greatest length of a segment that an Or-move moves, and `before` the length of the tour.
+#[inline]
 pub fn descend<S: TourStore, G: Gains>(
     tour: &mut S,
     gains: &mut G,
@@ -78,26 +131,5 @@ pub fn descend<S: TourStore, G: Gains>(
     ensures table { (G.distance gains.new ≡ G.distance gains.old) × (G.size_of gains.new ≡ G.size_of gains.old) }
     ensures sizes { (length (S.cities tour.new) ≡ length (S.cities tour.old)) × (waking.new.size ≡ waking.old.size) }
 {
-    let (tests, swaps) = (gains.tests(), tour.swaps());
-    let (_cities, _awake, _candidates) = (size(tour), waking.len(), near.width());
-    let mut after = before;
-    let mut moves = 0;
-    let mut looks = 0;
-    while let Some(x) = waking.take() {
-        looks += 1;
-        if let Some(found) = gains.find_offer(tour, near, or_segment, x) {
-            make(tour, &found.offer);
-            wake_ends(waking, &found.offer);
-            after -= found.gain;
-            moves += 1;
-        }
-    }
-    Report {
-        before,
-        after,
-        moves,
-        looks,
-        tests: gains.tests() - tests,
-        swaps: tour.swaps() - swaps,
-    }
+    descend_under(tour, gains, &Everything, near, waking, or_segment, before)
 }

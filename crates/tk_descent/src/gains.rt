@@ -6,9 +6,11 @@ ghost use Rattle.tk_tour.specs.Counters.{saturated};
 ghost use Rattle.tk_descent.specs.Offers.{gain, offers_at, Searched, EndsIn};
 ghost use Rattle.tk_descent.specs.Machine.{IsOfferOn};
 ghost use Rattle.tk_descent.specs.declared.offer.Offer.TheVariants.{Two, Or};
+ghost use Rattle.tk_descent.specs.Ruled.{Each, IsOnTour};
 
 use crate::looks::listing::offers_with;
 use crate::offer::{Found, Offer};
+use crate::rule::Rule;
 use tk_near::Near;
 use tk_tour::TourStore;
 
@@ -54,16 +56,25 @@ pub trait Gains {
         }
     }
 
-    /// The first of these offers with positive gain, and the gain. It computes the gains of the offers up to that one.
-    fn find_in(&mut self, offers: &[Offer]) -> Option<Found>
-        requires { All (EndsIn (size_of self.old)) offers.now }
-        ensures searched { Searched (distance self.old) offers.now result (test_count self.old) (test_count self.new) }
+    /// The first of these offers with positive gain that may be made, and the gain. It computes the gains of the offers
+    /// up to that one.
+    fn find_in<S: TourStore, R: Rule>(
+        &mut self,
+        tour: &S,
+        rule: &R,
+        offers: &[Offer],
+    ) -> Option<Found>
+        requires ends { All (EndsIn (size_of self.old)) offers.now }
+        requires tour { R.Fits rule.now (S.cities tour.now) }
+        requires on_tour { All (IsOnTour (S.cities tour.now)) offers.now }
+        ensures searched { Searched (distance self.old) (R.allowed rule.now (S.cities tour.now)) offers.now
+            result (test_count self.old) (test_count self.new) }
         ensures same { (distance self.new ≡ distance self.old) × (size_of self.new ≡ size_of self.old) }
     {
         let _counted = self.tests();
         for offer in offers {
             let gain = self.gain(offer);
-            if gain > 0 {
+            if gain > 0 && rule.allows(tour, offer) {
                 return Some(Found {
                     offer: *offer,
                     gain,
@@ -73,11 +84,12 @@ pub trait Gains {
         None
     }
 
-    /// Looks at a city: its first offer with positive gain, and the gain. It computes the gains of the offers up to
-    /// that one.
-    fn find_offer<S: TourStore>(
+    /// Looks at a city: its first offer with positive gain that may be made, and the gain. It computes the gains of the
+    /// offers up to that one.
+    fn find_offer<S: TourStore, R: Rule>(
         &mut self,
         tour: &S,
+        rule: &R,
         near: &Near,
         or_segment: u32,
         city: u32,
@@ -85,7 +97,9 @@ pub trait Gains {
         requires fits { (size_of self.old ≡ length (S.cities tour.now)) × (near.now.size ≡ length (S.cities tour.now)) }
         requires city { IsCity (length (S.cities tour.now)) city }
         requires most { (1 ≤ or_segment) × (or_segment ≤ 3) }
-        ensures searched { Searched (distance self.old) (offers_at (S.cities tour.now) or_segment near.now city)
+        requires tour { R.Fits rule.now (S.cities tour.now) }
+        ensures searched { Searched (distance self.old) (R.allowed rule.now (S.cities tour.now))
+            (offers_at (S.cities tour.now) or_segment near.now city)
             result (test_count self.old) (test_count self.new) }
         ensures on_cycle { IfSome result (λ f. IsOfferOn or_segment f.offer (S.cities tour.now)
             × EndsIn (length (S.cities tour.now)) f.offer) }
@@ -95,7 +109,7 @@ pub trait Gains {
         let _counted = self.tests();
         for near_city in near.of(city) {
             let offers = offers_with(tour, or_segment, city, *near_city);
-            if let Some(found) = self.find_in(offers.as_slice()) {
+            if let Some(found) = self.find_in(tour, rule, offers.as_slice()) {
                 return Some(found);
             }
         }

@@ -7,6 +7,7 @@ ghost use Rattle.tk_descent.specs.declared.offer.Offer.TheVariants.{Two, Or};
 use crate::gains::Gains;
 use crate::looks::looking::find_offer;
 use crate::offer::Found;
+use crate::rule::Rule;
 use crate::steps::Steps;
 use tk_distance::Metric;
 use tk_near::Near;
@@ -102,9 +103,10 @@ impl<'a, M: Metric> Gains for Probe<'a, M> {
     }
 
     #[inline]
-    fn find_offer<S: TourStore>(
+    fn find_offer<S: TourStore, R: Rule>(
         &mut self,
         tour: &S,
+        rule: &R,
         near: &Near,
         or_segment: u32,
         city: u32,
@@ -113,6 +115,7 @@ impl<'a, M: Metric> Gains for Probe<'a, M> {
             Some(steps) => find_offer(
                 tour,
                 self.metric,
+                rule,
                 steps,
                 &mut self.count,
                 near,
@@ -122,6 +125,7 @@ impl<'a, M: Metric> Gains for Probe<'a, M> {
             None => find_offer(
                 tour,
                 self.metric,
+                rule,
                 &mut [],
                 &mut self.count,
                 near,

@@ -2,11 +2,11 @@
 use Rattle.std.proofs.Common.{◌≡◌, ℕ, zero, suc, ◌+◌, ◌<◌, ◌≤◌, ◌≢◌, ◌⊎◌, Bool, true, false, cond, ◌||◌, ◌&&◌, eqb, leb}
 use Rattle.std.proofs.Common.{List, [], ◌∷◌, ◌++◌, length, reverse, refl, sym, ◌∙◌, ap, arith, inl, inr, subst, take}
 use Rattle.std.proofs.Common.{flat_map, append_assoc, length-append, get_or}
-use Rattle.std.proofs.lemmas.List.{reverse-append, length-reverse}
+use Rattle.std.proofs.lemmas.List.{reverse-append, reverse-reverse, length-reverse}
 use Rattle.std.proofs.lemmas.Bool.{or_cases, or_from, or_left, or_right, le-leb, and_from, eqb-true, ne_eqb, both_ways}
 use Rattle.std.proofs.lemmas.Bool.{cond-true}
 use Rattle.tk_tour.specs.Tour.{IsRotation, SameCycle, next_city, prev_city}
-use Rattle.tk_descent.proofs.MovesOnTours.Views.{Made, Parts, made_of}
+use Rattle.tk_descent.proofs.MovesOnTours.Views.{Made, Parts, made_of, makes_of}
 use Rattle.tk_descent.proofs.MovesOnTours.Paths.{Spans}
 use Rattle.tk_distance.specs.Holding.{IsDistinct, holds}
 use Rattle.tk_descent.specs.Offers.{offers_between, covers, segment_of_one, all_segments, segment_count}
@@ -22,6 +22,7 @@ use Rattle.tk_descent.proofs.OfferLists.Made.{mirrored, two_steps}
 use Rattle.tk_descent.proofs.OfferLists.Ways.{Ways, ways_on, ways_back, step_in}
 use Rattle.tk_descent.proofs.MovesOnTours.Steps.{Apart, turned, rotation-trans, turned_back, distinct-rotation}
 use Rattle.tk_descent.proofs.MovesOnTours.Steps.{distinct-parts, apart-ne, holds-first, holds-last, cycle-turn}
+use Rattle.tk_descent.proofs.MovesOnTours.Steps.{one_city, distinct-cycle}
 use Rattle.tk_descent.proofs.MovesOnTours.Steps.{cycle-same, cycle-reverse, steps_of, Steps, length-rotation}
 
 -- members of a list of offers
@@ -99,25 +100,58 @@ steps_back C A B a b c d h dis hA hB =
     (cycle-same C (reverse (A ++ B)) (reverse B ++ reverse A) (reverse-append A B) (cycle-reverse C (A ++ B) h)))
     dis (Spans-reverse A d a hA) (Spans-reverse B b c hB)
 
-two_complete : (C : List ℕ) (m : ℕ) (near : ℕ → List ℕ) (x a b c d : ℕ) → IsOfferOf near x (Two a b c d) →
-    Steps C a b c d →
-    Steps C d c b a → (p : Offer) × IsListed (offers C m (near x) x) p × HasSameSteps p (Two a b c d)
-two_complete C m near x a b c d (inl (e, h)) s t =
-    (Two a b c d, two_listed C (near x) m x a b c d e h s, λ f k. (refl, refl))
-two_complete C m near x a b c d (inr (inl (e, h))) s t = (
+-- a 2-opt move seen from its other step, and the other way round
+two_swapped : (m : ℕ) (C D : List ℕ) (a b c d : ℕ) → Made m (Two a b c d) C D → Made m (Two c d a b) C D
+two_swapped m C D a b c d (h, k) = (
+  record {
+    kept = h.turned;
+    turned = h.kept;
+    cycle = cycle-turn C h.kept h.turned h.cycle;
+    is_kept = h.is_turned;
+    is_turned = h.is_kept;
+  },
+  cycle-same D (reverse (h.kept ++ reverse h.turned)) (h.turned ++ reverse h.kept)
+      (reverse-append h.kept (reverse h.turned) ∙ ap (λ z. z ++ reverse h.kept) (reverse-reverse h.turned))
+      (cycle-reverse D (h.kept ++ reverse h.turned) k),
+)
+
+two_mirrored : (m : ℕ) (C D : List ℕ) (a b c d : ℕ) → Made m (Two a b c d) C D → Made m (Two b a d c) C D
+two_mirrored m C D a b c d (h, k) = (
+  record {
+    kept = reverse h.turned;
+    turned = reverse h.kept;
+    cycle = cycle-same C (reverse (h.kept ++ h.turned)) (reverse h.turned ++ reverse h.kept)
+        (reverse-append h.kept h.turned) (cycle-reverse C (h.kept ++ h.turned) h.cycle);
+    is_kept = Spans-reverse h.turned b c h.is_turned;
+    is_turned = Spans-reverse h.kept d a h.is_kept;
+  },
+  cycle-same D (reverse h.turned ++ h.kept) (reverse h.turned ++ reverse (reverse h.kept))
+      (ap (λ z. reverse h.turned ++ z) (sym (reverse-reverse h.kept)))
+      (cycle-turn D h.kept (reverse h.turned) k),
+)
+
+two_complete : (C D : List ℕ) (m : ℕ) (near : ℕ → List ℕ) (x a b c d : ℕ) → IsOfferOf near x (Two a b c d) →
+    Made m (Two a b c d) C D → Steps C a b c d → Steps C d c b a →
+    (p : Offer) × IsListed (offers C m (near x) x) p × HasSameSteps p (Two a b c d) × Made m p C D
+two_complete C D m near x a b c d (inl (e, h)) made s t =
+    (Two a b c d, two_listed C (near x) m x a b c d e h s, (λ f k. (refl, refl)), made)
+two_complete C D m near x a b c d (inr (inl (e, h))) made s t = (
   Two c d a b,
   two_listed C (near x) m x c d a b e h (steps-swap C a b c d s),
-  λ f k. (omega arith, omega (arith, k a c, k b d)),
+  (λ f k. (omega arith, omega (arith, k a c, k b d))),
+  two_swapped m C D a b c d made,
 )
-two_complete C m near x a b c d (inr (inr (inl (e, h)))) s t = (
+two_complete C D m near x a b c d (inr (inr (inl (e, h)))) made s t = (
   Two b a d c,
   two_listed C (near x) m x b a d c e h (steps-swap C d c b a t),
-  λ f k. (omega (arith, k a b, k c d), omega arith),
+  (λ f k. (omega (arith, k a b, k c d), omega arith)),
+  two_mirrored m C D a b c d made,
 )
-two_complete C m near x a b c d (inr (inr (inr (e, h)))) s t = (
+two_complete C D m near x a b c d (inr (inr (inr (e, h)))) made s t = (
   Two d c b a,
   two_listed C (near x) m x d c b a e h t,
-  λ f k. (omega (arith, k a b, k c d), omega (arith, k a c, k b d)),
+  (λ f k. (omega (arith, k a b, k c d), omega (arith, k a c, k b d))),
+  two_swapped m C D b a d c (two_mirrored m C D a b c d made),
 )
 
 -- the Or-offers, on a rotation K of the cycle or of its reverse
@@ -264,10 +298,32 @@ module _ {K : List ℕ} {nx pv : ℕ → ℕ} (ways : Ways K nx pv) {m : ℕ} (s
         (or_listed x y w (next_city C y) (prev_city C y) a2 e b2 (at i) ha he hb (uncovered (at i) y hm he beside.0)
         (uncovered (at i) w hm he beside.1) beside.2))))
 
+-- a segment of one city is its own reverse
+alone_swap : (m : ℕ) (C D : List ℕ) (a x b y w : ℕ) → IsDistinct C → Made m (Or a x x b y w) C D →
+    Made m (Or a x x b w y) C D
+alone_swap m C D a x b y w dis made =
+    elim made [
+      | inl (p, k) ↦ inr (p, subst (λ z. SameCycle D (p.ahead ++ z ++ p.rest)) (sym (alone p)) k)
+      | inr (p, k) ↦ inl (p, subst (λ z. SameCycle D (p.ahead ++ z ++ p.rest)) (alone p) k)
+    ]
+  where
+    alone : {c d : ℕ} (p : Parts m C a x x b c d) → reverse p.segment ≡ p.segment
+    alone p =
+        one_city p.segment x p.is_segment
+        (distinct-parts p.segment p.ahead (distinct-parts (p.segment ++ p.ahead) p.rest
+        (distinct-cycle C (p.segment ++ p.ahead ++ p.rest) p.cycle dis)).0).0
+
+turn_back : (m : ℕ) (C D : List ℕ) (a x e b y w : ℕ) → IsDistinct C → e ≡ x → Made m (Or a x e b y w) C D →
+    Made m (Or b x e a y w) C D
+turn_back m C D a x e b y w dis h made =
+    subst (λ z. Made m (Or b x z a y w) C D) (sym h)
+    (alone_swap m C D b x a w y dis
+    (mirrored m C D a x x b y w (subst (λ z. Made m (Or a x z b y w) C D) h made)))
+
 module _ (C : List ℕ) (dis : IsDistinct C) (near : List ℕ) (m : ℕ) (small : m ≤ 3) (a x e b y w : ℕ)
-    (hn : holds near y ≡ true) where
+    (hn : holds near y ≡ true) (D : List ℕ) (whole : Made m (Or a x e b y w) C D) where
   abbrev Answer : Type 0
-  Answer = (o : Offer) × IsListed (offers C m near x) o × HasSameSteps o (Or a x e b y w)
+  Answer = (o : Offer) × IsListed (offers C m near x) o × HasSameSteps o (Or a x e b y w) × Made m o C D
 
   module _ {c d : ℕ} (p : Parts m C a x e b c d) (beside : AreBeside C (p.ahead ++ p.rest) y w) where
     first : holds p.segment x ≡ true
@@ -286,7 +342,8 @@ module _ (C : List ℕ) (dis : IsDistinct C) (near : List ℕ) (m : ℕ) (small 
             | inr (inr h) ↦
                 put 3 (omega (arith, count-three (length C) m h.3 h.4)) (omega arith) a b before h.0 h.1 h.2
           ],
-          λ f k. (refl, refl),
+          (λ f k. (refl, refl)),
+          whole,
         )
 
     back : IsRotation (reverse C) (p.segment ++ p.ahead ++ p.rest) → Answer
@@ -299,19 +356,22 @@ module _ (C : List ℕ) (dis : IsDistinct C) (near : List ℕ) (m : ℕ) (small 
           | inl h ↦ (
             Or b x e a y w,
             put 0 (count-one (length C) m (omega (arith, h.2, same))) (omega arith) b a h.1 first (sym h.0) before,
-            λ f k. turn_alone f k h.0,
+            (λ f k. turn_alone f k h.0),
+            turn_back m C D a x e b y w dis h.0 whole,
           )
           | inr (inl h) ↦ (
             Or a x e b y w,
             put 2 (omega (arith, count-two (length C) m (omega (arith, h.2, same)) h.3)) (omega arith) a b before first
                 h.0 h.1,
-            λ f k. (refl, refl),
+            (λ f k. (refl, refl)),
+            whole,
           )
           | inr (inr h) ↦ (
             Or a x e b y w,
             put 4 (omega (arith, count-three (length C) m (omega (arith, h.3, same)) h.4)) (omega arith) a b before h.0
                 h.1 h.2,
-            λ f k. (refl, refl),
+            (λ f k. (refl, refl)),
+            whole,
           )
         ]
       where
@@ -321,8 +381,8 @@ module _ (C : List ℕ) (dis : IsDistinct C) (near : List ℕ) (m : ℕ) (small 
         turn_alone f k h =
             (omega (arith, ap (λ z. f z a) h, ap (λ z. f z b) h, k a x, k b x), omega (arith, k a b))
 
-  or_first : (D : List ℕ) → Made m (Or a x e b y w) C D → Answer
-  or_first D (inl (p, k)) =
+  or_first : Made m (Or a x e b y w) C D → Answer
+  or_first (inl (p, k)) =
       elim (p.cycle) [
         | inl rot ↦ let s = along (ways_on C dis) small p rot in ahead p (s.0, s.1, inl s.2) rot
         | inr r ↦
@@ -330,7 +390,7 @@ module _ (C : List ℕ) (dis : IsDistinct C) (near : List ℕ) (m : ℕ) (small 
             let s = along (ways_back C dis) small p rot in
             back p (s.0, s.1, inr s.2) rot
       ]
-  or_first D (inr (p, k)) =
+  or_first (inr (p, k)) =
       elim (p.cycle) [
         | inl rot ↦ let s = against (ways_on C dis) small p rot in ahead p (s.0, s.1, inr s.2) rot
         | inr r ↦
@@ -345,22 +405,25 @@ or_mirror a s e b y w p h =
 
 or_complete : (C : List ℕ) (dis : IsDistinct C) (near : ℕ → List ℕ) (m : ℕ) → m ≤ 3 → (x a s e b y w : ℕ) (D : List ℕ) →
     IsOfferOf near x (Or a s e b y w) → Made m (Or a s e b y w) C D →
-    (p : Offer) × IsListed (offers C m (near x) x) p × HasSameSteps p (Or a s e b y w)
+    (p : Offer) × IsListed (offers C m (near x) x) p × HasSameSteps p (Or a s e b y w) × Made m p C D
 or_complete C dis near m small x a s e b y w D (inl (i, h)) made =
-    subst (λ z. (p : Offer) × IsListed (offers C m (near z) z) p × HasSameSteps p (Or a s e b y w)) i
-    (or_first C dis (near s) m small a s e b y w (subst (λ z. holds (near z) y ≡ true) (sym i) h) D made)
+    subst (λ z. (p : Offer) × IsListed (offers C m (near z) z) p × HasSameSteps p (Or a s e b y w)
+    × Made m p C D) i
+    (or_first C dis (near s) m small a s e b y w (subst (λ z. holds (near z) y ≡ true) (sym i) h) D made made)
 or_complete C dis near m small x a s e b y w D (inr (i, h)) made =
     let q = or_first C dis (near e) m small b e s a w y (subst (λ z. holds (near z) w ≡ true) (sym i) h) D
-    (mirrored m C D a s e b y w made) in
-    subst (λ z. (p : Offer) × IsListed (offers C m (near z) z) p × HasSameSteps p (Or a s e b y w)) i
-    (q.0, q.1, or_mirror a s e b y w q.0 q.2)
+    (mirrored m C D a s e b y w made) (mirrored m C D a s e b y w made) in
+    subst (λ z. (p : Offer) × IsListed (offers C m (near z) z) p × HasSameSteps p (Or a s e b y w)
+    × Made m p C D) i
+    (q.0, q.1, or_mirror a s e b y w q.0 q.2, q.3)
 
 pub complete : (C : List ℕ) (near : ℕ → List ℕ) (m x : ℕ) → IsDistinct C → m ≤ 3 → IsComplete C m near x
-complete C near m x dis small o D of makes = complete_made o D of (made_of m o C D makes)
+complete C near m x dis small o D of makes =
+    let p = complete_made o D of (made_of m o C D makes) in (p.0, p.1, p.2, makes_of m p.0 C D p.3)
   where
     complete_made : (o : Offer) (D : List ℕ) → IsOfferOf near x o → Made m o C D →
-        (p : Offer) × IsListed (offers C m (near x) x) p × HasSameSteps p o
+        (p : Offer) × IsListed (offers C m (near x) x) p × HasSameSteps p o × Made m p C D
     complete_made (Two a b c d) D of made =
-        two_complete C m near x a b c d of (two_steps m C a b c d dis (D, made)).0
+        two_complete C D m near x a b c d of made (two_steps m C a b c d dis (D, made)).0
         (steps_back C made.0.kept made.0.turned a b c d made.0.cycle dis made.0.is_kept made.0.is_turned)
     complete_made (Or a s e b y w) D of made = or_complete C dis near m small x a s e b y w D of made

@@ -6,7 +6,8 @@ use Rattle.std.proofs.lemmas.Bool.{ltb-true, leb-true}
 use Rattle.std.proofs.lemmas.Int.{ints}
 use Rattle.tk_tour.specs.Tour.{next_city, prev_city, tour_length, walk}
 use Rattle.tk_descent.specs.Offers.{offers_between}
-use Rattle.tk_descent.specs.Offers.{first_gain, tests_to, Searched, improves, removed, added, covers, or_offer}
+use Rattle.tk_descent.specs.Offers.{first_allowed, tests_until, Searched, is_taken, improves, removed, added, covers}
+use Rattle.tk_descent.specs.Offers.{or_offer}
 use Rattle.tk_descent.specs.Offers.{or_offers, offers_with, offers, segments, all_segments, segment_count, ends}
 use Rattle.tk_descent.specs.Awake.{woken, woken_each}
 use Rattle.tk_distance.specs.Holding.{holds}
@@ -22,19 +23,38 @@ pub step_improves : (b : Bool) (o p : Offer) (r : Option Offer) (P : Offer → T
 step_improves true o p r P h k e = let same : o ≡ p = cc in subst P same (h refl)
 step_improves false o p r P h k e = k e
 
+and_second : (a b : Bool) → (a && b) ≡ true → b ≡ true
+and_second true b h = h
+and_second false b h = cc
+
+and_first : (a b : Bool) → (a && b) ≡ true → a ≡ true
+and_first true b h = refl
+and_first false b h = cc
+
 -- what is found improves, and has what each offer of the list has
-pub found_improves : (d : ℕ → ℕ → ℕ) (os : List Offer) (p : Offer) → first_gain d os ≡ Some p → added d p < removed d p
-found_improves d [] p e = cc
-found_improves d (o ∷ os) p e = step_improves (improves d o) o p (first_gain d os) (λ z. added d z < removed d z)
-    (λ h. ltb-true (added d o) (removed d o) h) (found_improves d os p) e
+pub found_improves : (d : ℕ → ℕ → ℕ) (may : Offer → Bool) (os : List Offer) (p : Offer) →
+    first_allowed d may os ≡ Some p → added d p < removed d p
+found_improves d may [] p e = cc
+found_improves d may (o ∷ os) p e =
+    step_improves (is_taken d may o) o p (first_allowed d may os) (λ z. added d z < removed d z)
+    (λ h. ltb-true (added d o) (removed d o) (and_second (may o) (improves d o) h)) (found_improves d may os p) e
+
+-- and may be made
+pub found_allowed : (d : ℕ → ℕ → ℕ) (may : Offer → Bool) (os : List Offer) (p : Offer) →
+    first_allowed d may os ≡ Some p → may p ≡ true
+found_allowed d may [] p e = cc
+found_allowed d may (o ∷ os) p e =
+    step_improves (is_taken d may o) o p (first_allowed d may os) (λ z. may z ≡ true)
+    (λ h. and_first (may o) (improves d o) h) (found_allowed d may os p) e
 
 tests_step : (b : Bool) (k n : ℕ) → k ≤ n → cond b 1 (suc k) ≤ suc n
 tests_step true k n h = omega arith
 tests_step false k n h = omega arith
 
-pub tests_to-le : (d : ℕ → ℕ → ℕ) (os : List Offer) → tests_to d os ≤ length os
-tests_to-le d [] = omega arith
-tests_to-le d (o ∷ os) = tests_step (improves d o) (tests_to d os) (length os) (tests_to-le d os)
+pub tests_until-le : (d : ℕ → ℕ → ℕ) (may : Offer → Bool) (os : List Offer) → tests_until d may os ≤ length os
+tests_until-le d may [] = omega arith
+tests_until-le d may (o ∷ os) =
+    tests_step (is_taken d may o) (tests_until d may os) (length os) (tests_until-le d may os)
 
 length-flat_map-le : {X : Type 0} (f : X → List Offer) (b : ℕ) → ((x : X) → length (f x) ≤ b) → (xs : List X) →
     length (flat_map f xs) ≤ b * length xs
@@ -58,10 +78,6 @@ count_cases true b c m h k l = omega (arith, h refl)
 count_cases false true c m h k l = omega (arith, k refl)
 count_cases false false true m h k l = omega arith
 count_cases false false false m h k l = omega arith
-
-and_second : (a b : Bool) → (a && b) ≡ true → b ≡ true
-and_second true b h = h
-and_second false b h = cc
 
 pub segment_count-le : (n m : ℕ) → 1 ≤ m → segment_count n m + 1 ≤ 2 * m
 segment_count-le n m l =
@@ -88,14 +104,14 @@ offers-le C near m x l =
     (λ y. offers_with-le (next_city C) (prev_city C) (length C) m x y l) near
 
 -- at most 4 * m tests for each near city
-pub tested : (d : ℕ → ℕ → ℕ) (C near : List ℕ) (m x t u k : ℕ) (r : Option Found) → 1 ≤ m → length near ≤ k →
-    Searched d (offers C m near x) r t u → u ≤ t + 4 * m * k
-tested d C near m x t u k r l e h =
+pub tested : {may : Offer → Bool} (d : ℕ → ℕ → ℕ) (C near : List ℕ) (m x t u k : ℕ) (r : Option Found) → 1 ≤ m →
+    length near ≤ k → Searched d may (offers C m near x) r t u → u ≤ t + 4 * m * k
+tested {may} d C near m x t u k r l e h =
     let p : 4 * m * length near ≤ 4 * m * k = mul-le-mul_left (4 * m) e in
-    omega (arith, h.tests, tests_to-le d (offers C m near x), p, offers-le C near m x l)
+    omega (arith, h.tests, tests_until-le d may (offers C m near x), p, offers-le C near m x l)
 
-pub tested_part : (d : ℕ → ℕ → ℕ) (C near : List ℕ) (m x i t u k : ℕ) (r : Option Found) → 1 ≤ m → length near ≤ k →
-    Searched d (flat_map (offers_between C m x) (take i near)) r t u → u ≤ t + 4 * m * k
+pub tested_part : {may : Offer → Bool} (d : ℕ → ℕ → ℕ) (C near : List ℕ) (m x i t u k : ℕ) (r : Option Found) →
+    1 ≤ m → length near ≤ k → Searched d may (flat_map (offers_between C m x) (take i near)) r t u → u ≤ t + 4 * m * k
 tested_part d C near m x i t u k r l e h = tested d C (take i near) m x t u k r l (omega (arith, length-take i near)) h
 
 -- the numbers of a move

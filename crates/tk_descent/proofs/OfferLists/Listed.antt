@@ -17,4 +17,4 @@ HasSameSteps p o = (d : ℕ → ℕ → ℕ) → ((a b : ℕ) → d a b ≡ d b 
 abbrev pub IsComplete : List ℕ → ℕ → (ℕ → List ℕ) → ℕ → Type 0
 IsComplete C m near x =
     (o : Offer) (D : List ℕ) → IsOfferOf near x o → Makes m o C D → (p : Offer) × IsListed (offers C m (near x) x) p
-    × HasSameSteps p o
+    × HasSameSteps p o × Makes m p C D

@@ -1,7 +1,7 @@
 -- Each offer of the list is one on the cycle.
 use Rattle.std.proofs.Common.{◌≡◌, ℕ, ◌<◌, ◌≤◌, ◌≢◌, ◌⊎◌, Bool, true, false, cond, ◌||◌, eqb, List, [], ◌∷◌, ◌++◌}
 use Rattle.std.proofs.Common.{length, reverse, Some, refl, sym, ◌∙◌, ap, arith, inl, inr, subst, ◌&&◌, leb}
-use Rattle.std.proofs.Common.{take, flat_map, slice_index}
+use Rattle.std.proofs.Common.{take, flat_map, slice_index, get_or, zero, suc}
 use Rattle.std.proofs.lemmas.Bool.{or_parts, and_parts, leb-true, eqb-false, ne_eqb}
 use Rattle.std.proofs.lemmas.List.{length-reverse}
 use Rattle.std.specs.List.{All}
@@ -12,7 +12,9 @@ use Rattle.tk_tour.specs.Tour.{IsRotation, SameCycle, next_city, prev_city}
 use Rattle.tk_descent.proofs.MovesOnTours.Views.{IsMadeOn, offer_on}
 use Rattle.tk_descent.proofs.MovesOnTours.Paths.{Spans, last_from, IsRound}
 use Rattle.tk_distance.specs.Holding.{IsDistinct, holds}
-use Rattle.tk_descent.specs.Offers.{offers_between, first_gain, improves, covers, segment_of_one, segment_of_two}
+use Rattle.tk_descent.specs.Ruled.{Each, IsOnTour}
+use Rattle.tk_descent.specs.Offers.{Makes}
+use Rattle.tk_descent.specs.Offers.{offers_between, first_allowed, is_taken, covers, segment_of_one, segment_of_two}
 use Rattle.tk_descent.specs.Offers.{segment_of_three, all_segments, segments, or_offer, or_offers, offers_with, offers}
 use Rattle.tk_descent.specs.Offers.{EndsIn, IsSegmentIn}
 use Rattle.tk_distance.specs.Cities.{IsCity}
@@ -107,13 +109,24 @@ module _ {C : List ℕ} {nx pv : ℕ → ℕ} (ways : Ways C nx pv) where
         (λ c h. rw (h.0, h.1, h.2))
     three_at (E, r) low big = absurd (omega (arith, length-rotation C (x ∷ E) r))
 
-abbrev pub Each : (Offer → Type 0) → List Offer → Type 0
-Each F [] = Unit {0}
-Each F (o ∷ os) = F o × Each F os
-
 pub each-append : (F : Offer → Type 0) (xs ys : List Offer) → Each F xs → Each F ys → Each F (xs ++ ys)
 each-append F [] ys h k = k
 each-append F (o ∷ xs) ys h k = (h.0, each-append F xs ys h.1 k)
+
+-- the parts of a list
+pub each-first : (F : Offer → Type 0) (xs ys : List Offer) → Each F (xs ++ ys) → Each F xs
+each-first F [] ys h = tt
+each-first F (o ∷ xs) ys h = (h.0, each-first F xs ys h.1)
+
+pub each-second : (F : Offer → Type 0) (xs ys : List Offer) → Each F (xs ++ ys) → Each F ys
+each-second F [] ys h = h
+each-second F (o ∷ xs) ys h = each-second F xs ys h.1
+
+pub each-at : {X : Type 0} (F : Offer → Type 0) (f : X → List Offer) (xs : List X) (i : ℕ) (z : X) → i < length xs →
+    Each F (flat_map f xs) → Each F (f (get_or xs i z))
+each-at F f [] i z at h = absurd (omega arith)
+each-at F f (x ∷ xs) zero z at h = each-first F (f x) (flat_map f xs) h
+each-at F f (x ∷ xs) (suc i) z at h = each-at F f xs i z (omega arith) (each-second F (f x) (flat_map f xs) h)
 
 pub each_flat : {X : Type 0} (F : Offer → Type 0) (f : X → List Offer) (xs : List X) → All (λ x. Each F (f x)) xs →
     Each F (flat_map f xs)
@@ -122,11 +135,11 @@ each_flat F f (x ∷ xs) h =
     each-append F (f x) (flat_map f xs) (All-head (λ v. Each F (f v)) x xs h)
     (each_flat F f xs (All-tail (λ v. Each F (f v)) x xs h))
 
-pub found_has : (F : Offer → Type 0) (d : ℕ → ℕ → ℕ) (os : List Offer) (p : Offer) → Each F os →
-    first_gain d os ≡ Some p → F p
-found_has F d [] p h e = cc
-found_has F d (o ∷ os) p h e =
-    step_improves (improves d o) o p (first_gain d os) F (λ b. h.0) (found_has F d os p h.1) e
+pub found_has : (F : Offer → Type 0) (d : ℕ → ℕ → ℕ) (may : Offer → Bool) (os : List Offer) (p : Offer) → Each F os →
+    first_allowed d may os ≡ Some p → F p
+found_has F d may [] p h e = cc
+found_has F d may (o ∷ os) p h e =
+    step_improves (is_taken d may o) o p (first_allowed d may os) F (λ b. h.0) (found_has F d may os p h.1) e
 
 each_cond : (F : Offer → Type 0) (b : Bool) (o : Offer) → (b ≡ false → F o) → Each F (cond b [] (o ∷ []))
 each_cond F true o h = tt
@@ -282,11 +295,11 @@ with_other : (C : List ℕ) (m x n y : ℕ) → IsRound C → 1 ≤ m → n ≡ 
 with_other C m x n y tour low size in' q =
     with_on C m x y tour low ((tour.members x).1 in') ((tour.members y).1 (q.0.0, omega (arith, size, q.0.1))) q.1
 
-pub offers_on : (d : ℕ → ℕ → ℕ) (C near : List ℕ) (m x n : ℕ) (o : Offer) → IsRound C → n ≡ length C → 1 ≤ m →
-    IsCity (length C) x → All (IsOther n x) near →
-    first_gain d (offers C m near x) ≡ Some o → IsOfferOn m o C × EndsIn (length C) o
-offers_on d C near m x n o tour size low in' others e =
-    let r = found_has (OnCycle C m) d (offers C m near x) o
+pub offers_on : (d : ℕ → ℕ → ℕ) (may : Offer → Bool) (C near : List ℕ) (m x n : ℕ) (o : Offer) → IsRound C →
+    n ≡ length C → 1 ≤ m → IsCity (length C) x → All (IsOther n x) near →
+    first_allowed d may (offers C m near x) ≡ Some o → IsOfferOn m o C × EndsIn (length C) o
+offers_on d may C near m x n o tour size low in' others e =
+    let r = found_has (OnCycle C m) d may (offers C m near x) o
     (each_flat (OnCycle C m) (offers_between C m x) near
     (λ k y l. with_other C m x n _ tour low size in' (others k y l))) e in
     (offer_on m o C r.0, r.1)
@@ -303,17 +316,41 @@ with_ends C near m x n k i os tour size many low in' others at same =
     let h = with_other C m x n (slice_index near i) tour low size in' (others i 0 at) in
     subst (λ z. All (EndsIn z) os) (sym many) (each_ends C m os (subst (λ z. Each (OnCycle C m) z) (sym same) h))
 
+pub more_made : (m : ℕ) (o : Offer) (C D : List ℕ) → m ≤ 3 → Makes m o C D → Makes 3 o C D
+more_made m (Two a b c d) C D h k = k
+more_made m (Or a x e b y w) C D h k = record {
+  segment = k.segment;
+  ahead = k.ahead;
+  rest = k.rest;
+  short = omega (arith, k.short);
+  is_segment = k.is_segment;
+  before = k.before;
+  after = k.after;
+}
+
 pub more_on : (m : ℕ) (o : Offer) (C : List ℕ) → m ≤ 3 → IsOfferOn m o C → IsOfferOn 3 o C
-more_on m (Two a b c d) C h (D, k) = (D, k)
-more_on m (Or a x e b y w) C h (D, k) = (
-  D,
-  record {
-    segment = k.segment;
-    ahead = k.ahead;
-    rest = k.rest;
-    short = omega (arith, k.short);
-    is_segment = k.is_segment;
-    before = k.before;
-    after = k.after;
-  },
-)
+more_on m o C h (D, k) = (D, more_made m o C D h k)
+
+-- the moves of the offers of x with a near city can be made on the cycle
+each_tour : (C : List ℕ) (m : ℕ) → m ≤ 3 → (os : List Offer) → Each (OnCycle C m) os → Each (IsOnTour C) os
+each_tour C m small [] h = tt
+each_tour C m small (o ∷ os) h =
+    ((more_on m o C small (offer_on m o C h.0.0), h.0.1), each_tour C m small os h.1)
+
+pub near_on : (C near : List ℕ) (m x n i : ℕ) → IsRound C → n ≡ length C → 1 ≤ m → m ≤ 3 → IsCity (length C) x →
+    All (IsOther n x) near → i < length near → Each (IsOnTour C) (offers_between C m x (slice_index near i))
+near_on C near m x n i tour size low small in' others at =
+    each_tour C m small (offers_between C m x (slice_index near i))
+    (with_other C m x n (slice_index near i) tour low size in' (others i 0 at))
+
+each_all : (F : Offer → Type 0) (os : List Offer) → Each F os → All F os
+each_all F [] h = All-nil F
+each_all F (o ∷ os) h = All-cons F o os h.0 (each_all F os h.1)
+
+pub near_all : (C near : List ℕ) (m x n i : ℕ) (os : List Offer) → IsRound C → n ≡ length C → 1 ≤ m → m ≤ 3 →
+    IsCity (length C) x → All (IsOther n x) near → i < length near →
+    os ≡ offers_between C m x (slice_index near i) → All (IsOnTour C) os
+near_all C near m x n i os tour size low small in' others at same =
+    subst (λ z. All (IsOnTour C) z) (sym same)
+    (each_all (IsOnTour C) (offers_between C m x (slice_index near i))
+    (near_on C near m x n i tour size low small in' others at))

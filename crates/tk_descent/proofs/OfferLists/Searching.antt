@@ -10,7 +10,7 @@ use Rattle.std.specs.List.{All}
 use Rattle.std.proofs.lemmas.List.Elements.{All-cons, All-nil}
 use Rattle.tk_tour.specs.Counters.{saturated}
 use Rattle.tk_tour.specs.Tour.{next_city, prev_city}
-use Rattle.tk_descent.specs.Offers.{offers_between, first_gain, tests_to, Searched, improves, or_offers, segments}
+use Rattle.tk_descent.specs.Offers.{offers_between, first_allowed, tests_until, Searched, is_taken, or_offers, segments}
 use Rattle.tk_descent.specs.Offers.{segment_count, all_segments}
 use Rattle.tk_descent.specs.Sharing.{segment_of, piece_offers}
 use Rattle.tk_descent.specs.declared.looks.sharing.Beside.{Beside}
@@ -19,6 +19,13 @@ use Rattle.tk_descent.specs.declared.offer.Offer.TheVariants.{Two}
 use Rattle.tk_descent.specs.declared.offer.Segment.{Segment}
 use Rattle.tk_descent.specs.declared.offer.Offer.{Offer}
 use Rattle.tk_descent.specs.declared.offer.Found.{Found}
+
+pub all_of_five : {X : Type 0} (P : X → Type 0) (a b c d e : X) → P a → P b → P c → P d → P e →
+    All P (a ∷ b ∷ c ∷ d ∷ e ∷ [])
+all_of_five P a b c d e h1 h2 h3 h4 h5 =
+    All-cons P a (b ∷ c ∷ d ∷ e ∷ []) h1
+    (All-cons P b (c ∷ d ∷ e ∷ []) h2
+    (All-cons P c (d ∷ e ∷ []) h3 (All-cons P d (e ∷ []) h4 (All-cons P e [] h5 (All-nil P)))))
 
 step_after : (b : Bool) (o : Offer) (r r2 s : Option Offer) (k l n : ℕ) → cond b (Some o) r ≡ None →
     (r ≡ None → (r2 ≡ s) × (k ≡ l + n)) → (cond b (Some o) r2 ≡ s) × (cond b 1 (suc k) ≡ cond b 1 (suc l) + n)
@@ -31,40 +38,43 @@ step_found true o p r r2 k l h f = (h, refl)
 step_found false o p r r2 k l h f = let q = f h in (q.0, ap suc q.1)
 
 -- after a list without an offer of positive gain the next is searched
-search_after : (d : ℕ → ℕ → ℕ) (xs ys : List Offer) → first_gain d xs ≡ None →
-    (first_gain d (xs ++ ys) ≡ first_gain d ys) × (tests_to d (xs ++ ys) ≡ tests_to d xs + tests_to d ys)
-search_after d [] ys h = (refl, omega arith)
-search_after d (o ∷ xs) ys h = step_after (improves d o) o (first_gain d xs) (first_gain d (xs ++ ys)) (first_gain d ys)
-    (tests_to d (xs ++ ys)) (tests_to d xs) (tests_to d ys) h (search_after d xs ys)
+search_after : (d : ℕ → ℕ → ℕ) (may : Offer → Bool) (xs ys : List Offer) → first_allowed d may xs ≡ None →
+    (first_allowed d may (xs ++ ys) ≡ first_allowed d may ys)
+    × (tests_until d may (xs ++ ys) ≡ tests_until d may xs + tests_until d may ys)
+search_after d may [] ys h = (refl, omega arith)
+search_after d may (o ∷ xs) ys h = step_after (is_taken d may o) o (first_allowed d may xs)
+    (first_allowed d may (xs ++ ys)) (first_allowed d may ys)
+    (tests_until d may (xs ++ ys)) (tests_until d may xs) (tests_until d may ys) h (search_after d may xs ys)
 
 -- one with such an offer is searched up to it
-search_found : (d : ℕ → ℕ → ℕ) (xs ys : List Offer) (p : Offer) → first_gain d xs ≡ Some p →
-    (first_gain d (xs ++ ys) ≡ Some p) × (tests_to d (xs ++ ys) ≡ tests_to d xs)
-search_found d [] ys p h = cc
-search_found d (o ∷ xs) ys p h = step_found (improves d o) o p (first_gain d xs) (first_gain d (xs ++ ys))
-    (tests_to d (xs ++ ys)) (tests_to d xs) h (search_found d xs ys p)
+search_found : (d : ℕ → ℕ → ℕ) (may : Offer → Bool) (xs ys : List Offer) (p : Offer) → first_allowed d may xs ≡ Some p →
+    (first_allowed d may (xs ++ ys) ≡ Some p) × (tests_until d may (xs ++ ys) ≡ tests_until d may xs)
+search_found d may [] ys p h = cc
+search_found d may (o ∷ xs) ys p h = step_found (is_taken d may o) o p (first_allowed d may xs)
+    (first_allowed d may (xs ++ ys)) (tests_until d may (xs ++ ys)) (tests_until d may xs) h
+    (search_found d may xs ys p)
 
 saturated-saturated : (t j k : ℕ) → saturated (saturated (t + j) + k) ≡ saturated (t + (j + k))
 saturated-saturated t j k = omega arith
 
 -- a search that found nothing goes on with another list
-pub Searched-on : (d : ℕ → ℕ → ℕ) (xs ys : List Offer) (r : Option Found) (t u v : ℕ) → Searched d xs None t u →
-    Searched d ys r u v → Searched d (xs ++ ys) r t v
-Searched-on d xs ys r t u v h k =
-    let e = search_after d xs ys (sym h.found) in
+pub Searched-on : {may : Offer → Bool} (d : ℕ → ℕ → ℕ) (xs ys : List Offer) (r : Option Found) (t u v : ℕ) →
+    Searched d may xs None t u → Searched d may ys r u v → Searched d may (xs ++ ys) r t v
+Searched-on {may} d xs ys r t u v h k =
+    let e = search_after d may xs ys (sym h.found) in
     record {
       found = k.found ∙ sym e.0;
       worth = k.worth;
       tests = k.tests
-          ∙ ap (λ z. saturated (z + tests_to d ys)) h.tests ∙ saturated-saturated t (tests_to d xs) (tests_to d ys)
-          ∙ ap (λ z. saturated (t + z)) (sym e.1);
+          ∙ ap (λ z. saturated (z + tests_until d may ys)) h.tests
+          ∙ saturated-saturated t (tests_until d may xs) (tests_until d may ys) ∙ ap (λ z. saturated (t + z)) (sym e.1);
     }
 
 -- a search that found an offer leaves the rest
-pub Searched-stop : (d : ℕ → ℕ → ℕ) (xs ys : List Offer) (f : Found) (t u : ℕ) → Searched d xs (Some f) t u →
-    Searched d (xs ++ ys) (Some f) t u
-Searched-stop d xs ys f t u h =
-    let e = search_found d xs ys f.offer (sym h.found) in
+pub Searched-stop : {may : Offer → Bool} (d : ℕ → ℕ → ℕ) (xs ys : List Offer) (f : Found) (t u : ℕ) →
+    Searched d may xs (Some f) t u → Searched d may (xs ++ ys) (Some f) t u
+Searched-stop {may} d xs ys f t u h =
+    let e = search_found d may xs ys f.offer (sym h.found) in
     record { found = sym e.0; worth = h.worth; tests = h.tests ∙ ap (λ z. saturated (t + z)) (sym e.1) }
 
 module _ {X : Type 0} (d : ℕ → ℕ → ℕ) (f : X → List Offer) (xs : List X) (i : ℕ) (x : X) (at : i < length xs)
@@ -73,48 +83,40 @@ module _ {X : Type 0} (d : ℕ → ℕ → ℕ) (f : X → List Offer) (xs : Lis
   one_more = ap (flat_map f) (take_more xs i x at) ∙ flat_map-append f (take i xs) (get_or xs i x ∷ [])
       ∙ ap (λ z. flat_map f (take i xs) ++ z) (append-nil (f (get_or xs i x)))
 
-  pub Searched-more : Searched d (flat_map f (take i xs)) None t u → Searched d (f (get_or xs i x)) None u v →
-      Searched d (flat_map f (take (i + 1) xs)) None t v
+  pub Searched-more : {may : Offer → Bool} → Searched d may (flat_map f (take i xs)) None t u →
+      Searched d may (f (get_or xs i x)) None u v → Searched d may (flat_map f (take (i + 1) xs)) None t v
   Searched-more h k = rw one_more (Searched-on d (flat_map f (take i xs)) (f (get_or xs i x)) None t u v h k)
 
   pieces : flat_map f xs ≡ (flat_map f (take i xs) ++ f (get_or xs i x)) ++ flat_map f (drop (i + 1) xs)
   pieces = ap (flat_map f) (sym (take-append-drop (i + 1) xs)) ∙ flat_map-append f (take (i + 1) xs) (drop (i + 1) xs)
       ∙ ap (λ z. z ++ flat_map f (drop (i + 1) xs)) one_more
 
-  pub Searched-early : (r : Found) → Searched d (flat_map f (take i xs)) None t u →
-      Searched d (f (get_or xs i x)) (Some r) u v → Searched d (flat_map f xs) (Some r) t v
+  pub Searched-early : {may : Offer → Bool} (r : Found) → Searched d may (flat_map f (take i xs)) None t u →
+      Searched d may (f (get_or xs i x)) (Some r) u v → Searched d may (flat_map f xs) (Some r) t v
   Searched-early r h k =
       rw pieces (Searched-stop d (flat_map f (take i xs) ++ f (get_or xs i x)) (flat_map f (drop (i + 1) xs)) r t v
       (Searched-on d (flat_map f (take i xs)) (f (get_or xs i x)) (Some r) t u v h k))
 
 -- a search of nothing
-pub Searched-none : (d : ℕ → ℕ → ℕ) (t : ℕ) → t < 18446744073709551616 → Searched d [] None t t
-Searched-none d t h = record { found = refl; worth = tt; tests = omega (arith, h) }
+pub Searched-none : {may : Offer → Bool} (d : ℕ → ℕ → ℕ) (t : ℕ) → t < 18446744073709551616 → Searched d may [] None t t
+Searched-none {may} d t h = record { found = refl; worth = tt; tests = omega (arith, h) }
 
-pub all_of_five : {X : Type 0} (P : X → Type 0) (a b c d e : X) → P a → P b → P c → P d → P e →
-    All P (a ∷ b ∷ c ∷ d ∷ e ∷ [])
-all_of_five P a b c d e h1 h2 h3 h4 h5 =
-    All-cons P a (b ∷ c ∷ d ∷ e ∷ []) h1
-    (All-cons P b (c ∷ d ∷ e ∷ []) h2
-    (All-cons P c (d ∷ e ∷ []) h3 (All-cons P d (e ∷ []) h4 (All-cons P e [] h5 (All-nil P)))))
+pub at_table : {may : Offer → Bool} (d e : ℕ → ℕ → ℕ) (os : List Offer) (r : Option Found) (t u : ℕ) → e ≡ d →
+    Searched e may os r t u → Searched d may os r t u
+at_table {may} d e os r t u same h = subst (λ z. Searched z may os r t u) same h
 
-pub at_table : (d e : ℕ → ℕ → ℕ) (os : List Offer) (r : Option Found) (t u : ℕ) → e ≡ d → Searched e os r t u →
-    Searched d os r t u
-at_table d e os r t u same h = subst (λ z. Searched z os r t u) same h
+pub on_list : {may : Offer → Bool} (d : ℕ → ℕ → ℕ) (os qs : List Offer) (r : Option Found) (t u : ℕ) → os ≡ qs →
+    Searched d may os r t u → Searched d may qs r t u
+on_list {may} d os qs r t u same h = subst (λ z. Searched d may z r t u) same h
 
-pub on_list : (d : ℕ → ℕ → ℕ) (os qs : List Offer) (r : Option Found) (t u : ℕ) → os ≡ qs → Searched d os r t u →
-    Searched d qs r t u
-on_list d os qs r t u same h = subst (λ z. Searched d z r t u) same h
-
--- what a search with the cities beside x and y in hand says of the offers of x with y
-pub with_city : (C : List ℕ) (m n k : ℕ) (all : List Piece) (a b : Beside) (x y : ℕ) (d : ℕ → ℕ → ℕ) (r : Option Found)
-    (t u : ℕ) → k ≡ segment_count n m → n ≡ length C →
-    map segment_of all ≡ all_segments (next_city C) (prev_city C) a.city →
+-- the offers of x with y, with the cities beside them in hand
+pub beside_offers : (C : List ℕ) (m n k : ℕ) (all : List Piece) (a b : Beside) (x y : ℕ) → k ≡ segment_count n m →
+    n ≡ length C → map segment_of all ≡ all_segments (next_city C) (prev_city C) a.city →
     a.city ≡ x → a.after ≡ next_city C x → a.before ≡ prev_city C x →
     b.city ≡ y → b.after ≡ next_city C y → b.before ≡ prev_city C y →
-    Searched d (Two a.city a.after b.city b.after ∷ Two a.city a.before b.city b.before
-    ∷ flat_map (piece_offers a.city b) (take k all)) r t u → Searched d (offers_between C m x y) r t u
-with_city C m n k all a b x y d r t u count size are h1 h2 h3 h4 h5 h6 h =
+    (Two a.city a.after b.city b.after ∷ Two a.city a.before b.city b.before
+    ∷ flat_map (piece_offers a.city b) (take k all)) ≡ offers_between C m x y
+beside_offers C m n k all a b x y count size are h1 h2 h3 h4 h5 h6 =
     let F : List Segment → List Offer = flat_map (or_offers a.city b.city b.after b.before) in
     let ss : map segment_of (take k all) ≡ segments (next_city C) (prev_city C) (length C) m x =
     sym (take-map segment_of k all) ∙ ap (take k) are
@@ -123,6 +125,15 @@ with_city C m n k all a b x y d r t u count size are h1 h2 h3 h4 h5 h6 h =
     let rest : flat_map (piece_offers a.city b) (take k all)
     ≡ F (segments (next_city C) (prev_city C) (length C) m x) =
     sym (flat_map-map (or_offers a.city b.city b.after b.before) segment_of (take k all)) ∙ ap F ss in
-    let same : (Two a.city a.after b.city b.after ∷ Two a.city a.before b.city b.before
-    ∷ flat_map (piece_offers a.city b) (take k all)) ≡ offers_between C m x y = cc in
-    on_list d _ _ r t u same h
+    cc
+
+-- what a search of them says
+pub with_city : {may : Offer → Bool} (C : List ℕ) (m n k : ℕ) (all : List Piece) (a b : Beside) (x y : ℕ)
+    (d : ℕ → ℕ → ℕ) (r : Option Found) (t u : ℕ) → k ≡ segment_count n m → n ≡ length C →
+    map segment_of all ≡ all_segments (next_city C) (prev_city C) a.city →
+    a.city ≡ x → a.after ≡ next_city C x → a.before ≡ prev_city C x →
+    b.city ≡ y → b.after ≡ next_city C y → b.before ≡ prev_city C y →
+    Searched d may (Two a.city a.after b.city b.after ∷ Two a.city a.before b.city b.before
+    ∷ flat_map (piece_offers a.city b) (take k all)) r t u → Searched d may (offers_between C m x y) r t u
+with_city {may} C m n k all a b x y d r t u count size are h1 h2 h3 h4 h5 h6 h =
+    on_list d _ _ r t u (beside_offers C m n k all a b x y count size are h1 h2 h3 h4 h5 h6) h

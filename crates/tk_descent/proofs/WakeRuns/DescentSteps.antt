@@ -1,6 +1,6 @@
 -- The steps of a descent.
 use Rattle.std.proofs.Common.{◌≡◌, ℕ, ◌+◌, ◌-◌, ◌*◌, ◌<◌, ◌≤◌, List, ◌∷◌, length, Option, Some, None, sym, ◌∙◌, ap}
-use Rattle.std.proofs.Common.{arith, subst, ℤ, pos, ◌-ℤ◌, FitsSigned, w64, to_z, of_z}
+use Rattle.std.proofs.Common.{Bool, true, arith, subst, ℤ, pos, ◌-ℤ◌, FitsSigned, w64, to_z, of_z}
 use Rattle.std.proofs.Math.Nat.{mul-le-mul}
 use Rattle.std.specs.Int.RustNames.{unsigned_abs}
 use Rattle.std.proofs.lemmas.Int.{ints, to_z-of_z}
@@ -8,41 +8,44 @@ use Rattle.tk_problem.specs.declared.limits.TheConstants.{CANDIDATE_LIMIT, CITY_
 use Rattle.tk_descent.proofs.MovesOnTours.Paths.{IsTable}
 use Rattle.tk_tour.specs.Counters.{saturated}
 use Rattle.tk_tour.specs.Tour.{tour_length}
-use Rattle.tk_descent.specs.Offers.{first_gain, tests_to, offers, Makes, removed, added, Searched, gain, ends}
+use Rattle.tk_descent.specs.Offers.{first_allowed, tests_until, offers, Makes, removed, added, Searched, gain, ends}
 use Rattle.tk_descent.specs.Awake.{woken_each}
-use Rattle.tk_descent.specs.Machine.{Run}
-use Rattle.tk_descent.specs.Machine.Run.{asleep, move}
+use Rattle.tk_descent.specs.Machine.{RunUnder}
+use Rattle.tk_descent.specs.Machine.RunUnder.{asleep, move}
 use Rattle.tk_descent.specs.declared.offer.Offer.{Offer}
 use Rattle.tk_descent.specs.declared.offer.Offer.TheVariants.{Two, Or}
 use Rattle.tk_descent.specs.declared.offer.Found.{Found}
 use Rattle.tk_descent.proofs.OfferLists.Searching.{at_table}
 use Rattle.tk_descent.proofs.MovesOnTours.GainLaw.{gain_law}
-use Rattle.tk_descent.proofs.OfferLists.Count.{found_improves, woken_each-le, ends-le, tour_length-le, gain_after}
+use Rattle.tk_descent.proofs.OfferLists.Count.{found_improves, found_allowed, woken_each-le, ends-le, tour_length-le}
+use Rattle.tk_descent.proofs.OfferLists.Count.{gain_after}
 
-module _ (d : ℕ → ℕ → ℕ) (near : ℕ → List ℕ) (m : ℕ) (T W C U V : List ℕ) (x looks moves tests : ℕ) where
-  pub run_asleep : Run d near m T W C U looks moves tests → U ≡ x ∷ V → (e : ℕ → ℕ → ℕ) (t u : ℕ) → e ≡ d →
-      Searched e (offers C m (near x) x) None t u →
-      Run d near m T W C V (looks + 1) moves (tests + tests_to d (offers C m (near x) x))
+module _ {may : List ℕ → Offer → Bool} (d : ℕ → ℕ → ℕ) (near : ℕ → List ℕ) (m : ℕ) (T W C U V : List ℕ)
+    (x looks moves tests : ℕ) where
+  pub run_asleep : RunUnder may d near m T W C U looks moves tests → U ≡ x ∷ V → (e : ℕ → ℕ → ℕ) (t u : ℕ) → e ≡ d →
+      Searched e (may C) (offers C m (near x) x) None t u →
+      RunUnder may d near m T W C V (looks + 1) moves (tests + tests_until d (may C) (offers C m (near x) x))
   run_asleep run front e t u same h =
-      asleep (subst (λ z. Run d near m T W C z looks moves tests) front run)
+      asleep (subst (λ z. RunUnder may d near m T W C z looks moves tests) front run)
       (sym (at_table d e (offers C m (near x) x) None t u same h).found)
 
   module _ (D Z : List ℕ) (f : Found) (e : ℕ → ℕ → ℕ) (t u : ℕ) (same : e ≡ d)
-      (h : Searched e (offers C m (near x) x) (Some f) t u) where
-    found : Some f.offer ≡ first_gain d (offers C m (near x) x)
-    found = (at_table d e (offers C m (near x) x) (Some f) t u same h).found
-
-    pub run_move : Run d near m T W C U looks moves tests → U ≡ x ∷ V → Makes m f.offer C D →
+      (h : Searched e (may C) (offers C m (near x) x) (Some f) t u) where
+    pub run_move : RunUnder may d near m T W C U looks moves tests → U ≡ x ∷ V → Makes m f.offer C D →
         Z ≡ woken_each V (ends f.offer) →
-        Run d near m T W D Z (looks + 1) (moves + 1) (tests + tests_to d (offers C m (near x) x))
+        RunUnder may d near m T W D Z (looks + 1) (moves + 1) (tests + tests_until d (may C) (offers C m (near x) x))
     run_move run front made woken =
-        subst (λ z. Run d near m T W D z (looks + 1) (moves + 1) (tests + tests_to d (offers C m (near x) x)))
-        (sym woken) (move (subst (λ z. Run d near m T W C z looks moves tests) front run) (sym found) made)
+        let found : Some f.offer ≡ first_allowed d (may C) (offers C m (near x) x) =
+        (at_table d e (offers C m (near x) x) (Some f) t u same h).found in
+        subst (λ z. RunUnder may d near m T W D z (looks + 1) (moves + 1)
+        (tests + tests_until d (may C) (offers C m (near x) x)))
+        (sym woken) (move (subst (λ z. RunUnder may d near m T W C z looks moves tests) front run) (sym found) made)
 
 -- a counter after a look, from the count before the descent and the descent's tests
-pub count_look : (d e : ℕ → ℕ → ℕ) (os : List Offer) (r : Option Found) (before t u tests : ℕ) → e ≡ d →
-    Searched e os r t u → t ≡ saturated (before + tests) → u ≡ saturated (before + (tests + tests_to d os))
-count_look d e os r before t u tests same h counted = omega (arith, (at_table d e os r t u same h).tests, counted)
+pub count_look : {may : Offer → Bool} (d e : ℕ → ℕ → ℕ) (os : List Offer) (r : Option Found)
+    (before t u tests : ℕ) → e ≡ d →
+    Searched e may os r t u → t ≡ saturated (before + tests) → u ≡ saturated (before + (tests + tests_until d may os))
+count_look {may} d e os r before t u tests same h counted = omega (arith, (at_table d e os r t u same h).tests, counted)
 
 pub queue_left : (U V Z : List ℕ) (x : ℕ) (o : Offer) → U ≡ x ∷ V → Z ≡ woken_each V (ends o) →
     length Z + 1 ≤ length U + 6
@@ -73,30 +76,36 @@ worth_bits d o L L2 z v is e now law few =
     let k : FitsSigned w64 (z -ℤ to_z w64 (of_z w64 v)) = subst (λ y. FitsSigned w64 y) (sym r) (length_fits L2 few) in
     (k, to_z-of_z w64 _ k ∙ r)
 
-pub worth_move : (d e : ℕ → ℕ → ℕ) (os : List Offer) (f : Found) (t u m : ℕ) (C D : List ℕ) (z : ℤ) → IsTable d →
-    e ≡ d → Searched e os (Some f) t u → Makes m f.offer C D → z ≡ pos (tour_length d C) →
+pub worth_move : {may : Offer → Bool} (d e : ℕ → ℕ → ℕ) (os : List Offer) (f : Found) (t u m : ℕ) (C D : List ℕ)
+    (z : ℤ) → IsTable d →
+    e ≡ d → Searched e may os (Some f) t u → Makes m f.offer C D → z ≡ pos (tour_length d C) →
     tour_length d D ≤ 400000000000000 →
     FitsSigned w64 (z -ℤ to_z w64 (of_z w64 f.gain))
     × (to_z w64 (of_z w64 (z -ℤ to_z w64 (of_z w64 f.gain))) ≡ pos (tour_length d D))
-worth_move d e os f t u m C D z is same h made now few =
+worth_move {may} d e os f t u m C D z is same h made now few =
     worth_bits d f.offer (tour_length d C) (tour_length d D) z f.gain is (at_table d e os (Some f) t u same h).worth now
     (gain_law d is.0 C D m f.offer made) few
 
 pub more_swaps : (a b c q k : ℕ) → b ≤ a + 3 * q * k → c ≤ b + 3 * q → c ≤ a + 3 * q * (k + 1)
 more_swaps a b c q k h j = omega arith
 
-pub tests_rise : (d : ℕ → ℕ → ℕ) (os : List Offer) (r : Option Found) (a t u : ℕ) → Searched d os r t u →
-    t ≤ 18446744073709551615 → a ≤ t → a ≤ u
-tests_rise d os r a t u h l k = omega (arith, h.tests)
+pub tests_rise : {may : Offer → Bool} (d : ℕ → ℕ → ℕ) (os : List Offer) (r : Option Found) (a t u : ℕ) →
+    Searched d may os r t u → t ≤ 18446744073709551615 → a ≤ t → a ≤ u
+tests_rise {may} d os r a t u h l k = omega (arith, h.tests)
 
-pub less_move : (d e : ℕ → ℕ → ℕ) (os : List Offer) (f : Found) (t u m : ℕ) (C D : List ℕ) → IsTable d → e ≡ d →
-    Searched e os (Some f) t u → Makes m f.offer C D → tour_length d D + 1 ≤ tour_length d C
-less_move d e os f t u m C D is same h made =
+pub less_move : {may : Offer → Bool} (d e : ℕ → ℕ → ℕ) (os : List Offer) (f : Found) (t u m : ℕ) (C D : List ℕ) →
+    IsTable d → e ≡ d → Searched e may os (Some f) t u → Makes m f.offer C D → tour_length d D + 1 ≤ tour_length d C
+less_move {may} d e os f t u m C D is same h made =
     omega (
       arith,
       gain_law d is.0 C D m f.offer made,
-      found_improves d os f.offer (sym (at_table d e os (Some f) t u same h).found),
+      found_improves d may os f.offer (sym (at_table d e os (Some f) t u same h).found),
     )
+
+-- what a look found may be made
+pub may_made : {may : Offer → Bool} (d : ℕ → ℕ → ℕ) (os : List Offer) (f : Found) (t u : ℕ) →
+    Searched d may os (Some f) t u → may f.offer ≡ true
+may_made {may} d os f t u h = found_allowed d may os f.offer (sym h.found)
 
 -- a descent has fewer than 3 * 10^18 tests
 pub few_tests : (m k n moves tests L : ℕ) → m ≤ 3 → k ≤ CANDIDATE_LIMIT → n ≤ CITY_LIMIT → moves ≤ L →

@@ -2,7 +2,7 @@
 use Rattle.std.proofs.Common.{ℕ, ◌+◌, ◌*◌, ◌≤◌, List, ◌∷◌, length, refl, ◌∙◌, arith}
 use Rattle.tk_tour.specs.Tour.{IsSizedTour}
 use Rattle.tk_descent.specs.Machine.{Run}
-use Rattle.tk_descent.specs.Machine.Run.{start, asleep, move}
+use Rattle.tk_descent.specs.Machine.RunUnder.{start, asleep, move}
 use Rattle.tk_descent.specs.Sweeps.{Moving, Sweeps}
 use Rattle.tk_descent.specs.Sweeps.Moving.{start as begin, pass}
 use Rattle.tk_descent.specs.WakeMachine.{IsLocalOptimum}

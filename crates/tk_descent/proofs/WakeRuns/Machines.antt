@@ -1,28 +1,29 @@
 -- A descent's run is a run of the wake machine.
-use Rattle.std.proofs.Common.{◌≡◌, ℕ, ◌<◌, ◌≤◌, ◌≢◌, ◌⊎◌, Bool, true, false, cond, ◌||◌, eqb, List, [], ◌∷◌, ◌++◌}
-use Rattle.std.proofs.Common.{length, Option, Some, None, refl, sym, ◌∙◌, ap, arith, inl, inr, subst, flat_map}
+use Rattle.std.proofs.Common.{◌≡◌, ℕ, ◌<◌, ◌≤◌, ◌≢◌, ◌⊎◌, Bool, true, false, cond, ◌||◌, ◌&&◌, eqb, List, [], ◌∷◌, ◌++◌}
+use Rattle.std.proofs.Common.{length, Option, Some, None, ◌↔◌, refl, sym, ◌∙◌, ap, arith, inl, inr, subst, flat_map}
 use Rattle.std.proofs.Math.Bool.{or_assoc, or-false}
 use Rattle.std.proofs.lemmas.Bool.{or_cases, or_left, or_right, eqb-true, eq-eqb, ne_eqb, both_ways, ltb-false}
 use Rattle.std.proofs.lemmas.Bool.{cases_eq}
 use Rattle.tk_tour.specs.Tour.{next_city, prev_city}
 use Rattle.tk_descent.proofs.MovesOnTours.Cities.{distinct_made}
 use Rattle.tk_descent.proofs.MovesOnTours.Paths.{IsTable}
-use Rattle.tk_descent.specs.Offers.{offers_between, first_gain, improves, or_offer, or_offers, offers, segments}
-use Rattle.tk_descent.specs.Offers.{removed, added, ends}
+use Rattle.tk_descent.specs.Offers.{offers_between, first_allowed, first_gain, is_taken, improves, or_offer}
+use Rattle.tk_descent.specs.Offers.{or_offers, offers, segments, removed, added, ends, everything, any, Makes}
 use Rattle.tk_descent.specs.Awake.{woken, woken_each}
 use Rattle.tk_distance.specs.Holding.{IsDistinct, holds}
-use Rattle.tk_descent.specs.Machine.{Run, IsOfferOn}
-use Rattle.tk_descent.specs.Machine.Run.{start, asleep, move}
-use Rattle.tk_descent.specs.WakeMachine.{IsOfferOf, Improves, HasNoOffer, IsLocalOptimum, Wakes}
-use Rattle.tk_descent.specs.WakeMachine.Wakes.{start as begin, asleep as fall_asleep, move as go_on}
+use Rattle.tk_descent.specs.Machine.{Run, RunUnder, IsOfferOn}
+use Rattle.tk_descent.specs.Machine.RunUnder.{start, asleep, move}
+use Rattle.tk_descent.specs.WakeMachine.{IsOfferOf, Improves, HasNoOfferUnder, IsLocalOptimum, WakesUnder, each_cycle}
+use Rattle.tk_descent.specs.WakeMachine.WakesUnder.{start as begin, asleep as fall_asleep, move as go_on}
 use Rattle.tk_descent.proofs.OfferLists.Listed.{IsListed}
 use Rattle.tk_descent.specs.declared.offer.Segment.{Segment}
 use Rattle.tk_descent.specs.declared.offer.Offer.{Offer}
 use Rattle.tk_descent.proofs.Lists.{holds-here, holds-push, distinct-push}
 use Rattle.tk_descent.proofs.MovesOnTours.GainLaw.{gain_law}
-use Rattle.tk_descent.proofs.OfferLists.Count.{found_improves}
+use Rattle.tk_descent.proofs.OfferLists.Count.{found_improves, found_allowed}
 use Rattle.tk_descent.proofs.OfferLists.Complete.{complete}
-use Rattle.tk_descent.proofs.OfferLists.OnCycle.{Each, each-append, each_flat, found_has, each_or}
+use Rattle.tk_descent.proofs.OfferLists.OnCycle.{each-append, each_flat, found_has, each_or, more_made}
+use Rattle.tk_descent.specs.Ruled.{Each}
 
 -- asleep
 
@@ -30,22 +31,37 @@ none_of : (b : Bool) (o : Offer) (r : Option Offer) → cond b (Some o) r ≡ No
 none_of true o r h = cc
 none_of false o r h = (refl, h)
 
-unlisted : (d : ℕ → ℕ → ℕ) (os : List Offer) (o : Offer) → first_gain d os ≡ None → IsListed os o →
-    added d o < removed d o → ⊥
-unlisted d [] o e l h = l
-unlisted d (p ∷ os) o e (inl same) h =
-    let q : (improves d p ≡ false) × (first_gain d os ≡ None) = none_of (improves d p) p (first_gain d os) e in
-    omega (arith, h, ltb-false (added d o) (removed d o) (subst (λ z. improves d z ≡ false) same q.0))
-unlisted d (p ∷ os) o e (inr l) h =
-    let q : (improves d p ≡ false) × (first_gain d os ≡ None) = none_of (improves d p) p (first_gain d os) e in
-    unlisted d os o q.1 l h
+unlisted : (d : ℕ → ℕ → ℕ) (may : Offer → Bool) (os : List Offer) (o : Offer) → first_allowed d may os ≡ None →
+    IsListed os o → may o ≡ true → added d o < removed d o → ⊥
+unlisted d may [] o e l a h = l
+unlisted d may (p ∷ os) o e (inl same) a h =
+    let q : (is_taken d may p ≡ false) × (first_allowed d may os ≡ None) =
+    none_of (is_taken d may p) p (first_allowed d may os) e in
+    let not : improves d o ≡ false =
+    ap (λ z. z && improves d o) (sym a) ∙ subst (λ z. is_taken d may z ≡ false) same q.0 in
+    omega (arith, h, ltb-false (added d o) (removed d o) not)
+unlisted d may (p ∷ os) o e (inr l) a h =
+    let q : (is_taken d may p ≡ false) × (first_allowed d may os ≡ None) =
+    none_of (is_taken d may p) p (first_allowed d may os) e in
+    unlisted d may os o q.1 l a h
 
-pub none_improves : (d : ℕ → ℕ → ℕ) (near : ℕ → List ℕ) (m x : ℕ) (C : List ℕ) → IsTable d → IsDistinct C → m ≤ 3 →
-    first_gain d (offers C m (near x) x) ≡ None → HasNoOffer d near m x C
-none_improves d near m x C is dis small e =
+-- on a cycle that fits, an offer may be made where the cycle after its move fits
+abbrev pub IsRuleOn : (List ℕ → Type 0) → (List ℕ → Offer → Bool) → Type 0
+IsRuleOn fits may =
+    (o : Offer) (C D : List ℕ) → IsDistinct C → fits C → Makes 3 o C D → (may C o ≡ true) ↔ fits D
+
+pub rules_nothing : IsRuleOn each_cycle everything
+rules_nothing o C D dis fit made = (λ e. tt, λ e. refl)
+
+pub none_improves : (fits : List ℕ → Type 0) (may : List ℕ → Offer → Bool) (d : ℕ → ℕ → ℕ) (near : ℕ → List ℕ)
+    (m x : ℕ) (C : List ℕ) → IsRuleOn fits may → IsTable d → IsDistinct C → fits C → m ≤ 3 →
+    first_allowed d (may C) (offers C m (near x) x) ≡ None → HasNoOfferUnder fits d near m x C
+none_improves fits may d near m x C rule is dis fit small e =
     λ o D i. let p = complete C near m x dis small o D i.0 i.1 in
     let q = p.2 d is.0 in
-    unlisted d (offers C m (near x) x) p.0 e p.1 (omega (arith, q.0, q.1, gain_law d is.0 C D m o i.1, i.2))
+    let a : may C p.0 ≡ true = (rule p.0 C D dis fit (more_made m p.0 C D small p.3)).1 i.3 in
+    unlisted d (may C) (offers C m (near x) x) p.0 e p.1 a
+    (omega (arith, q.0, q.1, gain_law d is.0 C D m o i.1, i.2))
 
 -- what is found is an offer of x
 
@@ -65,10 +81,10 @@ from_or near x y ay by h s =
     (λ u v. (inl (refl, h), holds-here x (s.before ∷ s.last ∷ s.after ∷ y ∷ w ∷ []))) in
     each-append (IsFrom near x) (or_offer x y s ay) (or_offer x y s by) (put ay) (put by)
 
-pub found_from : (d : ℕ → ℕ → ℕ) (near : ℕ → List ℕ) (m x : ℕ) (C : List ℕ) (o : Offer) →
-    first_gain d (offers C m (near x) x) ≡ Some o → IsOfferOf near x o × (holds (ends o) x ≡ true)
-found_from d near m x C o e =
-    found_has (IsFrom near x) d (offers C m (near x) x) o
+pub found_from : (d : ℕ → ℕ → ℕ) (may : Offer → Bool) (near : ℕ → List ℕ) (m x : ℕ) (C : List ℕ) (o : Offer) →
+    first_allowed d may (offers C m (near x) x) ≡ Some o → IsOfferOf near x o × (holds (ends o) x ≡ true)
+found_from d may near m x C o e =
+    found_has (IsFrom near x) d may (offers C m (near x) x) o
     (each_held (IsFrom near x) (offers_between C m x) (near x) (λ y h. (
       (inl (refl, h), holds-here x (next_city C x ∷ y ∷ next_city C y ∷ [])),
       (
@@ -129,31 +145,44 @@ module _ (V : List ℕ) (x : ℕ) (dis : IsDistinct (x ∷ V)) where
         ]
     joins_back c (inr h) = holds-woken_each es V c ∙ or_right (holds V c) (holds es c) h
 
-module _ (d : ℕ → ℕ → ℕ) (near : ℕ → List ℕ) (m : ℕ) (T W : List ℕ) (is : IsTable d) (small : m ≤ 3)
-    (tour : IsDistinct T) (once : IsDistinct W) where
-  run_wakes_all : {C V : List ℕ} {looks moves tests : ℕ} → Run d near m T W C V looks moves tests →
-      Wakes d near m T W C V × IsDistinct C × IsDistinct V
-  run_wakes_all start = (begin, tour, once)
+module _ (fits : List ℕ → Type 0) (may : List ℕ → Offer → Bool) (d : ℕ → ℕ → ℕ) (near : ℕ → List ℕ) (m : ℕ)
+    (T W : List ℕ) (rule : IsRuleOn fits may) (is : IsTable d) (small : m ≤ 3) (tour : IsDistinct T) (fit : fits T)
+    (once : IsDistinct W) where
+  run_wakes_all : {C V : List ℕ} {looks moves tests : ℕ} → RunUnder may d near m T W C V looks moves tests →
+      WakesUnder fits d near m T W C V × IsDistinct C × IsDistinct V × fits C
+  run_wakes_all start = (begin, tour, once, fit)
   run_wakes_all (asleep {C = C} {V = V} {x = x} r e) =
       let i = run_wakes_all r in (
-        fall_asleep x i.0 (holds-here x V) (none_improves d near m x C is i.1 small e)
+        fall_asleep x i.0 (holds-here x V) (none_improves fits may d near m x C rule is i.1 i.3 small e)
             (λ c. (stays V x i.2 c, stays_back V x i.2 c)),
         i.1,
         i.2.1,
+        i.3,
       )
   run_wakes_all (move {C = C} {V = V} {D = D} {x = x} {o = o} r e made) =
       let i = run_wakes_all r in
-      let f = found_from d near m x C o e in (
-        go_on x o i.0 (holds-here x V)
-            (f.0, made, omega (arith, gain_law d is.0 C D m o made, found_improves d (offers C m (near x) x) o e))
+      let f = found_from d (may C) near m x C o e in
+      let after : fits D =
+      (rule o C D i.1 i.3 (more_made m o C D small made)).0 (found_allowed d (may C) (offers C m (near x) x) o e) in (
+        go_on x o i.0 (holds-here x V) (
+          f.0,
+          made,
+          omega (arith, gain_law d is.0 C D m o made, found_improves d (may C) (offers C m (near x) x) o e),
+          after,
+        )
             (λ c. (joins V x i.2 (ends o) f.1 c, joins_back V x i.2 (ends o) f.1 c)),
         distinct_made m o C D made i.1,
         distinct-woken_each (ends o) V i.2.1,
+        after,
       )
 
-  pub run_wakes : {C V : List ℕ} {looks moves tests : ℕ} → Run d near m T W C V looks moves tests →
-      Wakes d near m T W C V
+  pub run_wakes : {C V : List ℕ} {looks moves tests : ℕ} → RunUnder may d near m T W C V looks moves tests →
+      WakesUnder fits d near m T W C V
   run_wakes r = (run_wakes_all r).0
+
+  -- each cycle on the way fits
+  pub run_fits : {C V : List ℕ} {looks moves tests : ℕ} → RunUnder may d near m T W C V looks moves tests → fits C
+  run_fits r = (run_wakes_all r).3
 
 -- a run without a move leaves the cycle, and puts to sleep only cities without an offer
 pub still : (d : ℕ → ℕ → ℕ) (near : ℕ → List ℕ) (m : ℕ) (T W : List ℕ) {C V : List ℕ} {looks moves tests : ℕ} →
@@ -184,8 +213,7 @@ still_optimum d near m T W C looks moves tests is small dis all r z =
     subst (λ v. IsLocalOptimum d near m v) (sym i.0)
     (λ x h. elim (i.1 x (all x h)) [
       | inl k ↦ absurd (both_ways false refl k)
-      | inr k ↦ none_improves d near m x T is
-          dis small k
+      | inr k ↦ none_improves each_cycle everything d near m x T rules_nothing is dis tt small k
     ])
 
 pub some_improves : (d : ℕ → ℕ → ℕ) (near : ℕ → List ℕ) (m x : ℕ) (C : List ℕ) (o : Offer) → IsTable d →
@@ -193,8 +221,9 @@ pub some_improves : (d : ℕ → ℕ → ℕ) (near : ℕ → List ℕ) (m x : �
 some_improves d near m x C o is e (D, made) = (
   D,
   (
-    (found_from d near m x C o e).0,
+    (found_from d any near m x C o e).0,
     made,
-    omega (arith, gain_law d is.0 C D m o made, found_improves d (offers C m (near x) x) o e),
+    omega (arith, gain_law d is.0 C D m o made, found_improves d any (offers C m (near x) x) o e),
+    tt,
   ),
 )

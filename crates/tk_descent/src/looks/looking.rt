@@ -9,12 +9,14 @@ ghost use Rattle.tk_distance.specs.Cities.{IsCity};
 ghost use Rattle.tk_descent.specs.Machine.{IsOfferOn};
 ghost use Rattle.tk_descent.specs.WakeMachine.{HasNoOffer};
 ghost use Rattle.tk_descent.specs.declared.offer.Offer.TheVariants.{Two};
+ghost use Rattle.tk_descent.specs.Ruled.{Each, IsOnTour};
 
 use crate::gains::Gains;
 use crate::looks::segments::segment_count;
 use crate::looks::sharing::{Beside, Piece, look_beside, pieces_of};
 use crate::offer::{Found, Offer, Segment};
 use crate::on_tour::size;
+use crate::rule::{Everything, Rule};
 use crate::steps::Measured;
 use tk_distance::Metric;
 use tk_near::Near;
@@ -22,8 +24,10 @@ use tk_tour::TourStore;
 
 /// Tests a 2-opt offer; a gain is what is left of `margin` once the step b-d is added.
 #[inline(always)]
-fn try_two<M: Metric>(
+fn try_two<S: TourStore, M: Metric, R: Rule>(
+    tour: &S,
     metric: &M,
+    rule: &R,
     count: &mut u64,
     a: u32,
     b: u32,
@@ -31,16 +35,23 @@ fn try_two<M: Metric>(
     d: u32,
     margin: i64,
 ) -> Option<Found>
+    requires fits { R.Fits rule.now (S.cities tour.now) }
+    requires on_tour { IsOnTour (S.cities tour.now) (Two a b c d) }
     requires cities { EndsIn (M.size_of metric.now) (Two a b c d) }
     requires margin { margin ≡ two_margin (M.distance metric.now) a b c d }
-    ensures { Searched (M.distance metric.now) (Two a b c d ∷ []) result count.old count.new }
+    ensures { Searched (M.distance metric.now) (R.allowed rule.now (S.cities tour.now)) (Two a b c d ∷ [])
+        result count.old count.new }
 {
     *count = count.saturating_add(1);
     if !metric.is_nearer(b, d, margin) {
         return None;
     }
+    let offer = Offer::Two { a, b, c, d };
+    if !rule.allows(tour, &offer) {
+        return None;
+    }
     Some(Found {
-        offer: Offer::Two { a, b, c, d },
+        offer,
         gain: margin - metric.dist(b, d),
     })
 }
@@ -48,8 +59,10 @@ fn try_two<M: Metric>(
 /// Tests the Or-offer of a segment between y and w, where neither lies in it; a gain is what is left of `margin` once
 /// the step from the segment's last city to w is added.
 #[inline(always)]
-fn try_or<M: Metric>(
+fn try_or<S: TourStore, M: Metric, R: Rule>(
+    tour: &S,
     metric: &M,
+    rule: &R,
     count: &mut u64,
     x: u32,
     y: u32,
@@ -57,9 +70,12 @@ fn try_or<M: Metric>(
     w: u32,
     margin: i64,
 ) -> Option<Found>
+    requires fits { R.Fits rule.now (S.cities tour.now) }
+    requires on_tour { Each (IsOnTour (S.cities tour.now)) (or_offer x y segment.now w) }
     requires cities { IsCity (M.size_of metric.now) segment.now.last × IsCity (M.size_of metric.now) w }
     requires margin { margin ≡ or_margin (M.distance metric.now) x y segment.now w }
-    ensures { Searched (M.distance metric.now) (or_offer x y segment.now w) result count.old count.new }
+    ensures { Searched (M.distance metric.now) (R.allowed rule.now (S.cities tour.now)) (or_offer x y segment.now w)
+        result count.old count.new }
 {
     let _counted = *count;
     if segment.covers(x, y) || segment.covers(x, w) {
@@ -69,8 +85,12 @@ fn try_or<M: Metric>(
     if !metric.is_nearer(segment.last, w, margin) {
         return None;
     }
+    let offer = segment.offer(x, y, w);
+    if !rule.allows(tour, &offer) {
+        return None;
+    }
     Some(Found {
-        offer: segment.offer(x, y, w),
+        offer,
         gain: margin - metric.dist(segment.last, w),
     })
 }
@@ -96,45 +116,75 @@ fn margin_of<M: Metric>(
 
 /// Tests the Or-offers of a segment beside y.
 #[inline(always)]
-fn try_piece<M: Metric>(
+fn try_piece<S: TourStore, M: Metric, R: Rule>(
+    tour: &S,
     metric: &M,
+    rule: &R,
     count: &mut u64,
     x: u32,
     piece: &Piece,
     y: &Beside,
     across: i64,
 ) -> Option<Found>
+    requires fits { R.Fits rule.now (S.cities tour.now) }
+    requires on_tour { Each (IsOnTour (S.cities tour.now)) (piece_offers x y.now piece.now) }
     requires piece { IsPiece (M.size_of metric.now) (M.distance metric.now) x piece.now }
     requires beside { IsBeside (M.size_of metric.now) (M.distance metric.now) y.now }
     requires across { across ≡ pos (M.distance metric.now x y.now.city) }
-    ensures { Searched (M.distance metric.now) (piece_offers x y.now piece.now) result count.old count.new }
+    ensures { Searched (M.distance metric.now) (R.allowed rule.now (S.cities tour.now)) (piece_offers x y.now piece.now)
+        result count.old count.new }
 {
     let margin = margin_of(metric, x, y.city, piece, y.after, across, y.to_after);
-    if let Some(found) = try_or(metric, count, x, y.city, &piece.segment, y.after, margin) {
+    if let Some(found) = try_or(
+        tour,
+        metric,
+        rule,
+        count,
+        x,
+        y.city,
+        &piece.segment,
+        y.after,
+        margin,
+    ) {
         return Some(found);
     }
     let margin = margin_of(metric, x, y.city, piece, y.before, across, y.to_before);
-    try_or(metric, count, x, y.city, &piece.segment, y.before, margin)
+    try_or(
+        tour,
+        metric,
+        rule,
+        count,
+        x,
+        y.city,
+        &piece.segment,
+        y.before,
+        margin,
+    )
 }
 
 /// Tests the Or-offers of segments beside y.
 #[inline(always)]
-fn try_segments<M: Metric>(
+fn try_segments<S: TourStore, M: Metric, R: Rule>(
+    tour: &S,
     metric: &M,
+    rule: &R,
     count: &mut u64,
     x: u32,
     pieces: &[Piece],
     y: &Beside,
     across: i64,
 ) -> Option<Found>
+    requires fits { R.Fits rule.now (S.cities tour.now) }
+    requires on_tour { Each (IsOnTour (S.cities tour.now)) (flat_map (piece_offers x y.now) pieces.now) }
     requires pieces { All (IsPiece (M.size_of metric.now) (M.distance metric.now) x) pieces.now }
     requires beside { IsBeside (M.size_of metric.now) (M.distance metric.now) y.now }
     requires across { across ≡ pos (M.distance metric.now x y.now.city) }
-    ensures { Searched (M.distance metric.now) (flat_map (piece_offers x y.now) pieces.now) result count.old count.new }
+    ensures { Searched (M.distance metric.now) (R.allowed rule.now (S.cities tour.now))
+        (flat_map (piece_offers x y.now) pieces.now) result count.old count.new }
 {
     let _counted = *count;
     for piece in pieces {
-        if let Some(found) = try_piece(metric, count, x, piece, y, across) {
+        if let Some(found) = try_piece(tour, metric, rule, count, x, piece, y, across) {
             return Some(found);
         }
     }
@@ -143,36 +193,47 @@ fn try_segments<M: Metric>(
 
 /// Tests the offers of x with y.
 #[inline(always)]
-fn try_city<M: Metric>(
+fn try_city<S: TourStore, M: Metric, R: Rule>(
+    tour: &S,
     metric: &M,
+    rule: &R,
     count: &mut u64,
     x: &Beside,
     pieces: &[Piece],
     y: &Beside,
 ) -> Option<Found>
+    requires fits { R.Fits rule.now (S.cities tour.now) }
+    requires on_tour { Each (IsOnTour (S.cities tour.now))
+        (Two x.now.city x.now.after y.now.city y.now.after ∷ Two x.now.city x.now.before y.now.city y.now.before
+        ∷ flat_map (piece_offers x.now.city y.now) pieces.now) }
     requires from { IsBeside (M.size_of metric.now) (M.distance metric.now) x.now }
     requires pieces { All (IsPiece (M.size_of metric.now) (M.distance metric.now) x.now.city) pieces.now }
     requires beside { IsBeside (M.size_of metric.now) (M.distance metric.now) y.now }
-    ensures { Searched (M.distance metric.now)
+    ensures { Searched (M.distance metric.now) (R.allowed rule.now (S.cities tour.now))
         (Two x.now.city x.now.after y.now.city y.now.after ∷ Two x.now.city x.now.before y.now.city y.now.before
         ∷ flat_map (piece_offers x.now.city y.now) pieces.now) result count.old count.new }
 {
     let across = metric.dist(x.city, y.city);
     let margin = x.to_after + y.to_after - across;
-    if let Some(found) = try_two(metric, count, x.city, x.after, y.city, y.after, margin) {
+    if let Some(found) = try_two(
+        tour, metric, rule, count, x.city, x.after, y.city, y.after, margin,
+    ) {
         return Some(found);
     }
     let margin = x.to_before + y.to_before - across;
-    if let Some(found) = try_two(metric, count, x.city, x.before, y.city, y.before, margin) {
+    if let Some(found) = try_two(
+        tour, metric, rule, count, x.city, x.before, y.city, y.before, margin,
+    ) {
         return Some(found);
     }
-    try_segments(metric, count, x.city, pieces, y, across)
+    try_segments(tour, metric, rule, count, x.city, pieces, y, across)
 }
 
 /// Looks at a city: its first offer with positive gain, and the gain. It adds the tests to the count.
-pub(crate) fn find_offer<S: TourStore, M: Metric>(
+pub(crate) fn find_offer<S: TourStore, M: Metric, R: Rule>(
     tour: &S,
     metric: &M,
+    rule: &R,
     steps: &mut [Measured],
     count: &mut u64,
     near: &Near,
@@ -183,7 +244,8 @@ pub(crate) fn find_offer<S: TourStore, M: Metric>(
     requires city { IsCity (length (S.cities tour.now)) city }
     requires most { (1 ≤ or_segment) × (or_segment ≤ 3) }
     requires known { AreMeasured (M.distance metric.now) steps.old }
-    ensures searched { Searched (M.distance metric.now)
+    requires tour { R.Fits rule.now (S.cities tour.now) }
+    ensures searched { Searched (M.distance metric.now) (R.allowed rule.now (S.cities tour.now))
         (offers_at (S.cities tour.now) or_segment near.now city) result count.old count.new }
     ensures on_cycle { IfSome result (λ f. IsOfferOn or_segment f.offer (S.cities tour.now)
         × EndsIn (length (S.cities tour.now)) f.offer) }
@@ -196,7 +258,7 @@ pub(crate) fn find_offer<S: TourStore, M: Metric>(
     let pieces = &all[..segment_count(size(tour), or_segment)];
     for y in near.of(city) {
         let y = look_beside(tour, metric, steps, *y);
-        if let Some(found) = try_city(metric, &mut tests, &from, pieces, &y) {
+        if let Some(found) = try_city(tour, metric, rule, &mut tests, &from, pieces, &y) {
             *count = tests;
             return Some(found);
         }
@@ -225,7 +287,7 @@ pub fn look<S: TourStore, G: Gains>(
     ensures bound { G.test_count gains.new ≤ G.test_count gains.old + 4 * or_segment * near.now.width }
     ensures same { (G.distance gains.new ≡ G.distance gains.old) × (G.size_of gains.new ≡ G.size_of gains.old) }
 {
-    match gains.find_offer(tour, near, or_segment, city) {
+    match gains.find_offer(tour, &Everything, near, or_segment, city) {
         Some(found) => Some(found.offer),
         None => None,
     }

@@ -1,23 +1,33 @@
-use Rattle.std.proofs.Common.{◌∙◌, FitsSigned, w64, rules}
-use Rattle.tk_descent.proofs.OfferLists.OneByOne.{Searched-passed, Searched-taken}
+use Rattle.std.proofs.Common.{◌∙◌, FitsSigned, w64, rules, sym}
+use Rattle.tk_descent.proofs.OfferLists.OneByOne.{Searched-not_worth, Searched-not_allowed, Searched-allowed}
 use Rattle.tk_descent.proofs.gains.Gains.find_in.Goals as goal
+use Rattle.tk_descent.proofs.gains.Gains.find_in.Goals.{else-gain-gt0-via-then-gain-gt0+else-allows}
+use Rattle.tk_descent.proofs.gains.Gains.find_in.Goals.{else-gain-gt0-via-else-gain-gt0}
 
-pub returns-then-gain-gt0-clause-searched : goal.returns-then-gain-gt0-clause-searched
-returns-then-gain-gt0-clause-searched g c =
+pub returns-then-allows-clause-searched : goal.returns-then-allows-clause-searched
+returns-then-allows-clause-searched g c =
     let i = c.loop-offer.invariant in
     let fits : FitsSigned w64 c.gain-gain.result = search rules in
-    Searched-taken (g.Self.Gains.distance c.args.self.now) _ c.args.offers.now c.loop-offer.offer-index
+    Searched-allowed (g.Self.Gains.distance c.args.self.now) _ c.args.offers.now c.loop-offer.offer-index
     _ c.loop-offer-test.true _ _ _ i.searched c.gain-gain.ensures.count c.gain-gain.result fits i.table
-    c.gain-gain.ensures.value c.if-gain-gt0.true
+    c.gain-gain.ensures.value c.if-gain-gt0.true (sym c.allows.ensures ∙ c.if-allows.true)
 
 pub loop-offer-preserved : goal.loop-offer-preserved
 loop-offer-preserved g c =
     let i = c.loop-offer.invariant in
     let fits : FitsSigned w64 c.gain-gain.result = search rules in
     record {
-      searched = Searched-passed (g.Self.Gains.distance c.args.self.now) _ c.args.offers.now c.loop-offer.offer-index
-          _ c.loop-offer-test.true _ _ _ i.searched c.gain-gain.ensures.count c.gain-gain.result fits i.table
-          c.gain-gain.ensures.value c.if-gain-gt0.false;
+      searched =
+          elim c.else-gain-gt0.branch [
+            | else-gain-gt0-via-then-gain-gt0+else-allows w ↦ Searched-not_allowed
+                (g.Self.Gains.distance c.args.self.now) _ c.args.offers.now c.loop-offer.offer-index _
+                c.loop-offer-test.true _ _ _ i.searched c.gain-gain.ensures.count c.gain-gain.result fits i.table
+                c.gain-gain.ensures.value (sym w.allows.ensures ∙ w.if-allows.false)
+            | else-gain-gt0-via-else-gain-gt0 w ↦ Searched-not_worth
+                (g.Self.Gains.distance c.args.self.now) _ c.args.offers.now c.loop-offer.offer-index _
+                c.loop-offer-test.true _ _ _ i.searched c.gain-gain.ensures.count c.gain-gain.result fits i.table
+                c.gain-gain.ensures.value w.if-gain-gt0.false
+          ];
       table = c.gain-gain.ensures.same.0 ∙ i.table;
       range = c.gain-gain.ensures.same.1 ∙ i.range;
     }

@@ -1,15 +1,15 @@
 use Rattle.std.proofs.Common.{◌∙◌, length, ap, flat_map, arith, sym}
 use Rattle.std.proofs.lemmas.List.{take_all}
 use Rattle.tk_near.specs.Near.{near_of}
-use Rattle.tk_descent.specs.Offers.{offers_between, first_gain, offers}
+use Rattle.tk_descent.specs.Offers.{offers_between, first_allowed, offers}
 use Rattle.tk_descent.proofs.OfferLists.Searching.{Searched-more, Searched-early, at_table, on_list}
 use Rattle.tk_descent.proofs.OfferLists.Count.{tested, tested_part}
-use Rattle.tk_descent.proofs.OfferLists.OnCycle.{offers_on, with_ends}
+use Rattle.tk_descent.proofs.OfferLists.OnCycle.{offers_on, with_ends, near_all}
 use Rattle.tk_descent.proofs.MovesOnTours.Rounds.{round_of}
 use Rattle.tk_descent.proofs.gains.Gains.find_offer.Goals as goal
 
-pub find_in-requires : goal.find_in-requires
-find_in-requires g c =
+pub find_in-requires-clause-ends : goal.find_in-requires-clause-ends
+find_in-requires-clause-ends g c =
     let C = g.S.TourStore.cities c.args.tour.now in
     with_ends C c.of-near_city-items.result.now c.args.or_segment c.args.city c.args.near.now.size
     (g.Self.Gains.size_of c.loop-near_city.self) c.loop-near_city.near_city-index
@@ -17,6 +17,14 @@ find_in-requires g c =
     (c.loop-near_city.invariant.range ∙ c.requires.fits.0) c.requires.most.0 c.requires.city
     c.of-near_city-items.ensures.others c.loop-near_city-test.true (c.as_slice.ensures
     ∙ c.offers_with-offers.ensures)
+
+pub find_in-requires-clause-on_tour : goal.find_in-requires-clause-on_tour
+find_in-requires-clause-on_tour g c =
+    let C = g.S.TourStore.cities c.args.tour.now in
+    near_all C c.of-near_city-items.result.now c.args.or_segment c.args.city c.args.near.now.size
+    c.loop-near_city.near_city-index _ (round_of C (g.met.S.TourStore.is_tour c.args.tour.now)) c.requires.fits.1
+    c.requires.most.0 c.requires.most.1 c.requires.city c.of-near_city-items.ensures.others c.loop-near_city-test.true
+    (c.as_slice.ensures ∙ c.offers_with-offers.ensures)
 
 pub returns-in-Some-clause-searched : goal.returns-in-Some-clause-searched
 returns-in-Some-clause-searched g c =
@@ -49,11 +57,12 @@ pub returns-in-Some-clause-on_cycle : goal.returns-in-Some-clause-on_cycle
 returns-in-Some-clause-on_cycle g c =
     let C = g.S.TourStore.cities c.args.tour.now in
     let h = returns-in-Some-clause-searched g c in
-    offers_on (g.Self.Gains.distance c.args.self.now) C c.of-near_city-items.result.now c.args.or_segment c.args.city
+    offers_on (g.Self.Gains.distance c.args.self.now) (g.R.Rule.allowed c.args.rule.now C) C
+    c.of-near_city-items.result.now c.args.or_segment c.args.city
     c.args.near.now.size c.in-Some.found.offer (round_of C (g.met.S.TourStore.is_tour c.args.tour.now))
     c.requires.fits.1 c.requires.most.0 c.requires.city c.of-near_city-items.ensures.others
-    (ap (λ z. first_gain (g.Self.Gains.distance c.args.self.now) (offers C c.args.or_segment z c.args.city))
-    c.of-near_city-items.ensures.value ∙ sym h.found)
+    (ap (λ z. first_allowed (g.Self.Gains.distance c.args.self.now) (g.R.Rule.allowed c.args.rule.now C)
+    (offers C c.args.or_segment z c.args.city)) c.of-near_city-items.ensures.value ∙ sym h.found)
 
 pub returns-in-Some-clause-bound : goal.returns-in-Some-clause-bound
 returns-in-Some-clause-bound g c =

@@ -1,12 +1,14 @@
-use Rattle.std.proofs.Common.{◌∙◌, length, ap, flat_map, arith, sym}
+use Rattle.std.proofs.Common.{◌∙◌, length, ap, flat_map, arith, sym, subst}
 use Rattle.std.proofs.lemmas.List.{take_all}
 use Rattle.std.proofs.lemmas.List.Elements.{All-take}
 use Rattle.tk_near.specs.Near.{near_of}
-use Rattle.tk_descent.specs.Offers.{offers_between, first_gain, offers}
+use Rattle.tk_descent.specs.Offers.{offers_between, first_allowed, offers}
 use Rattle.tk_descent.specs.Sharing.{IsPiece}
 use Rattle.tk_descent.proofs.OfferLists.Searching.{Searched-more, Searched-early, Searched-none, with_city, on_list}
+use Rattle.tk_descent.proofs.OfferLists.Searching.{beside_offers}
+use Rattle.tk_descent.specs.Ruled.{Each, IsOnTour}
 use Rattle.tk_descent.proofs.OfferLists.Count.{tested, tested_part}
-use Rattle.tk_descent.proofs.OfferLists.OnCycle.{offers_on}
+use Rattle.tk_descent.proofs.OfferLists.OnCycle.{offers_on, near_on}
 use Rattle.tk_descent.proofs.MovesOnTours.Rounds.{round_of}
 use Rattle.tk_descent.proofs.looks.looking.find_offer.Goals as goal
 
@@ -50,11 +52,12 @@ pub returns-in-Some-clause-on_cycle : goal.returns-in-Some-clause-on_cycle
 returns-in-Some-clause-on_cycle g c =
     let C = g.S.TourStore.cities c.args.tour.now in
     let h = returns-in-Some-clause-searched g c in
-    offers_on (g.M.Metric.distance c.args.metric.now) C c.of-y-items.result.now c.args.or_segment c.args.city
+    offers_on (g.M.Metric.distance c.args.metric.now) (g.R.Rule.allowed c.args.rule.now C) C c.of-y-items.result.now
+    c.args.or_segment c.args.city
     c.args.near.now.size c.in-Some.found.offer (round_of C (g.met.S.TourStore.is_tour c.args.tour.now))
     c.requires.fits.1 c.requires.most.0 c.requires.city c.of-y-items.ensures.others
-    (ap (λ z. first_gain (g.M.Metric.distance c.args.metric.now) (offers C c.args.or_segment z c.args.city))
-    c.of-y-items.ensures.value ∙ sym h.found)
+    (ap (λ z. first_allowed (g.M.Metric.distance c.args.metric.now) (g.R.Rule.allowed c.args.rule.now C)
+    (offers C c.args.or_segment z c.args.city)) c.of-y-items.ensures.value ∙ sym h.found)
 
 pub returns-in-Some-clause-bound : goal.returns-in-Some-clause-bound
 returns-in-Some-clause-bound g c =
@@ -83,3 +86,15 @@ returns-clause-searched g c =
     _ _ _ _ _ (ap (flat_map (offers_between C c.args.or_segment c.args.city))
     (take_all c.loop-y.y-index c.of-y-items.result.now (omega (arith, c.loop-y-test.false))
     ∙ c.of-y-items.ensures.value)) c.loop-y.invariant.searched
+
+pub try_city-requires-clause-on_tour : goal.try_city-requires-clause-on_tour
+try_city-requires-clause-on_tour g c =
+    let C = g.S.TourStore.cities c.args.tour.now in
+    subst (λ z. Each (IsOnTour C) z)
+    (sym (beside_offers C c.args.or_segment _ _ _ c.look_beside-from.result c.look_beside-y.result _ _
+    c.segment_count.ensures.value c.size.ensures.count c.pieces_of-all.ensures.value
+    c.look_beside-from.ensures.city c.look_beside-from.ensures.after c.look_beside-from.ensures.before
+    c.look_beside-y.ensures.city c.look_beside-y.ensures.after c.look_beside-y.ensures.before))
+    (near_on C c.of-y-items.result.now c.args.or_segment c.args.city c.args.near.now.size c.loop-y.y-index
+    (round_of C (g.met.S.TourStore.is_tour c.args.tour.now)) c.requires.fits.1 c.requires.most.0 c.requires.most.1
+    c.requires.city c.of-y-items.ensures.others c.loop-y-test.true)

@@ -1,4 +1,7 @@
 use Rattle.tk_descent.proofs.OfferLists.Searching.{Searched-on, Searched-stop}
+use Rattle.tk_descent.specs.Ruled.{IsOnTour}
+use Rattle.tk_descent.specs.Offers.{or_offer}
+use Rattle.tk_descent.proofs.OfferLists.OnCycle.{each-first, each-second}
 use Rattle.tk_descent.proofs.looks.looking.try_piece.Goals as goal
 
 pub returns-in-Some : goal.returns-in-Some
@@ -7,3 +10,17 @@ returns-in-Some g c = Searched-stop (g.M.Metric.distance c.args.metric.now) _ _ 
 pub returns : goal.returns
 returns g c =
     Searched-on (g.M.Metric.distance c.args.metric.now) _ _ _ _ _ _ c.in_default.ensures c.try_or-2.ensures
+
+pub try_or-requires-clause-on_tour : goal.try_or-requires-clause-on_tour
+try_or-requires-clause-on_tour g c =
+    let y = c.args.y.now in
+    let s = c.args.piece.now.segment in
+    each-first (IsOnTour (g.S.TourStore.cities c.args.tour.now)) (or_offer c.args.x y.city s y.after)
+    (or_offer c.args.x y.city s y.before) c.requires.on_tour
+
+pub try_or-requires-2-clause-on_tour : goal.try_or-requires-2-clause-on_tour
+try_or-requires-2-clause-on_tour g c =
+    let y = c.args.y.now in
+    let s = c.args.piece.now.segment in
+    each-second (IsOnTour (g.S.TourStore.cities c.args.tour.now)) (or_offer c.args.x y.city s y.after)
+    (or_offer c.args.x y.city s y.before) c.requires.on_tour

@@ -4,20 +4,20 @@ use Rattle.std.proofs.lemmas.Int.{to_z-of_z}
 use Rattle.std.specs.Int.RustNames.{unsigned_abs}
 use Rattle.tk_problem.specs.declared.limits.TheConstants.{CITY_LIMIT}
 use Rattle.tk_near.specs.Near.{near_of}
-use Rattle.tk_descent.proofs.OfferLists.OnCycle.{more_on}
+use Rattle.tk_descent.proofs.OfferLists.OnCycle.{more_on, more_made}
 use Rattle.tk_tour.specs.Tour.{tour_length, IsTour}
-use Rattle.tk_descent.specs.Machine.{Run}
-use Rattle.tk_descent.specs.Machine.Run.{start}
+use Rattle.tk_descent.specs.Machine.{RunUnder}
+use Rattle.tk_descent.specs.Machine.RunUnder.{start}
 use Rattle.tk_descent.proofs.MovesOnTours.Paths.{IsTable}
 use Rattle.tk_descent.proofs.MovesOnTours.Rounds.{round_of}
 use Rattle.tk_descent.proofs.WakeRuns.DescentSteps.{run_asleep, run_move, less_move, worth_move, queue_left}
 use Rattle.tk_descent.proofs.WakeRuns.DescentSteps.{fits_length, more_swaps, tests_rise, count_look, few_tests}
-use Rattle.tk_descent.proofs.WakeRuns.DescentSteps.{fresh_count, saved_is}
+use Rattle.tk_descent.proofs.WakeRuns.DescentSteps.{fresh_count, saved_is, may_made}
 use Rattle.tk_descent.proofs.OfferLists.Count.{fewer}
-use Rattle.tk_descent.specs.WakeMachine.{Wakes}
+use Rattle.tk_descent.specs.WakeMachine.{WakesUnder}
 use Rattle.tk_descent.proofs.WakeRuns.Machines.{run_wakes}
-use Rattle.tk_descent.proofs.descent.descend.Given.{Over}
-use Rattle.tk_descent.proofs.descent.descend.Goals as goal
+use Rattle.tk_descent.proofs.descent.descend_under.Given.{Over}
+use Rattle.tk_descent.proofs.descent.descend_under.Goals as goal
 use mir.Val.{SFits}
 
 -- the laws of the distances
@@ -27,6 +27,7 @@ laws g gains = (g.met.G.Gains.symmetric gains, g.met.G.Gains.distance_limit gain
 pub loop-x-init : goal.loop-x-init
 loop-x-init g c = record {
   run = (0, start, omega (arith, g.met.G.Gains.count_limit c.args.gains.now));
+  tour = c.requires.tour;
   table = refl;
   range = c.requires.fits.0;
   size = refl;
@@ -110,6 +111,11 @@ loop-x-preserved-in-Some-find_offer g c =
             i.run.1 c.in-Some.ensures.taken made c.wake_ends.ensures.queue,
         count_look d _ _ _ _ _ _ _ i.table c.in-Some-find_offer.ensures.searched i.run.2,
       );
+      tour = (g.met.R.Rule.exact c.args.rule.now f.offer (g.S.TourStore.cities c.loop-x.tour)
+          (g.S.TourStore.cities c.make.new.tour)
+          (round_of _ (g.met.S.TourStore.is_tour c.loop-x.tour)).distinct i.tour
+          (more_made c.args.or_segment f.offer _ _ c.requires.most.1 made)).0
+          (may_made _ _ f _ _ c.in-Some-find_offer.ensures.searched);
       table = c.find_offer.ensures.same.0 ∙ i.table;
       range = c.find_offer.ensures.same.1 ∙ i.range;
       size = c.make.ensures.size ∙ i.size;
@@ -159,6 +165,7 @@ loop-x-preserved g c =
             c.in_default-find_offer.ensures.searched,
         count_look d _ _ _ _ _ _ _ i.table c.in_default-find_offer.ensures.searched i.run.2,
       );
+      tour = i.tour;
       table = c.find_offer.ensures.same.0 ∙ i.table;
       range = c.find_offer.ensures.same.1 ∙ i.range;
       size = i.size;
@@ -191,6 +198,9 @@ returns-clause-descent g c =
     let W = c.args.waking.now.queue in
     let D = g.S.TourStore.cities c.loop-x.tour in
     let asleep = c.in_default.ensures.taken.0 in
+    let fits = g.R.Rule.Fits c.args.rule.now in
+    let may = g.R.Rule.allowed c.args.rule.now in
+    let rule = g.met.R.Rule.exact c.args.rule.now in
     let few : length T ≤ CITY_LIMIT = omega (arith, c.size-cities.ensures.count, c.size-cities.ensures.limits.1) in
     let most : c.tests.result - c.tests-tests.result
     ≤ 4 * c.args.or_segment * c.args.near.now.width * (length W + 6 * c.loop-x.moves) =
@@ -202,12 +212,12 @@ returns-clause-descent g c =
       fewer c.args.or_segment c.args.near.now.width c.loop-x.looks (length W + 6 * c.loop-x.moves)
           (omega (arith, i.looked)),
     ) in
-    let run : Run d near c.args.or_segment T W D [] c.loop-x.looks c.loop-x.moves i.run.0 =
-    subst (λ z. Run d near c.args.or_segment T W D z c.loop-x.looks c.loop-x.moves i.run.0) asleep i.run.1 in
+    let run : RunUnder may d near c.args.or_segment T W D [] c.loop-x.looks c.loop-x.moves i.run.0 =
+    subst (λ z. RunUnder may d near c.args.or_segment T W D z c.loop-x.looks c.loop-x.moves i.run.0) asleep i.run.1 in
     record {
       run = (i.run.0, run, i.run.2);
       fresh = λ fresh.
-          subst (λ z. Run d near c.args.or_segment T W D [] c.loop-x.looks c.loop-x.moves z)
+          subst (λ z. RunUnder may d near c.args.or_segment T W D [] c.loop-x.looks c.loop-x.moves z)
           (fresh_count _ _ i.run.0 _ i.run.2 (omega (arith, c.tests-tests.ensures, c.tests.ensures)) fresh
           (few_tests c.args.or_segment c.args.near.now.width (length W) c.loop-x.moves _ (tour_length d T)
           c.requires.most.1 (omega (arith, c.width-candidates.ensures.value, c.width-candidates.ensures.limit))
@@ -220,11 +230,13 @@ returns-clause-descent g c =
             c.size-cities.ensures.limits.1,
           )) (omega (arith, i.gained)) (fits_length d T (laws g c.args.gains.now) few) most)) run;
       wakes =
-          subst (λ z. Wakes d near c.args.or_segment T W D z) asleep
-          (run_wakes d near c.args.or_segment T W (laws g c.args.gains.now) c.requires.most.1
-          (round_of _ (g.met.S.TourStore.is_tour c.args.tour.now)).distinct c.len-awake.ensures.distinct i.run.1);
+          subst (λ z. WakesUnder fits d near c.args.or_segment T W D z) asleep
+          (run_wakes fits may d near c.args.or_segment T W rule (laws g c.args.gains.now) c.requires.most.1
+          (round_of _ (g.met.S.TourStore.is_tour c.args.tour.now)).distinct c.requires.tour
+          c.len-awake.ensures.distinct i.run.1);
       asleep = search rules;
       tour = subst (λ z. IsTour z D) i.size (g.met.S.TourStore.is_tour c.loop-x.tour).2;
+      fitting = i.tour;
       reported = record {
         before = search rules;
         after = search rules;

@@ -2,8 +2,8 @@ use Rattle.std.proofs.Common.{◌≡◌, ℕ, ◌+◌, ◌*◌, ◌/◌, ◌≤�
 use Rattle.tk_near.specs.Near.{near_of}
 use Rattle.tk_tour.specs.Counters.{saturated}
 use Rattle.tk_tour.specs.Tour.{tour_length}
-use Rattle.tk_descent.specs.Machine.{Run}
-use Rattle.tk_descent.proofs.descent.descend.Given as goal
+use Rattle.tk_descent.specs.Machine.{RunUnder}
+use Rattle.tk_descent.proofs.descent.descend_under.Given as goal
 
 abbrev pub invariant-loop-x : goal.invariant-loop-x
 invariant-loop-x g l =
@@ -11,8 +11,10 @@ invariant-loop-x g l =
     let T = g.S.TourStore.cities l.fn.tour in
     let C = g.S.TourStore.cities l.tour in
     record {
-      run : (tests : ℕ) × Run dist (near_of l.near) l.or_segment T l.fn.waking.queue C l.waking.queue l.looks l.moves
-          tests × (g.G.Gains.test_count l.gains ≡ saturated (g.G.Gains.test_count l.fn.gains + tests));
+      run : (tests : ℕ) × RunUnder (g.R.Rule.allowed l.rule) dist (near_of l.near) l.or_segment T l.fn.waking.queue C
+          l.waking.queue l.looks l.moves tests
+          × (g.G.Gains.test_count l.gains ≡ saturated (g.G.Gains.test_count l.fn.gains + tests));
+      tour : g.R.Rule.Fits l.rule C;
       table : g.G.Gains.distance l.gains ≡ dist;
       range : g.G.Gains.size_of l.gains ≡ length T;
       size : length C ≡ length T;
