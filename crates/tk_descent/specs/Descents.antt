@@ -3,7 +3,7 @@
 --     Descent      a descent from one stand to another, with its report
 --     Sweeping      descents with all cities awake, until one makes no move, with their report
 --     IsDescent, IsSweeping      the same of a tour, its waking cities and gains
---     DescentUnder, IsDescentUnder      a descent under a rule, by which not every offer may be made
+--     DescentUnder, SweepingUnder, IsDescentUnder, IsSweepingUnder      the same under a rule
 --     AreOfSize      gains, near lists and waking cities that go with a tour
 use Rattle.std.specs.Prelude.{◌≡◌, ℕ, ◌+◌, ◌-◌, ◌*◌, ◌/◌, ◌≤◌, ◌-ℤ◌, Bool, List, [], length, pos}
 use Rattle.std.specs.Int.RustNames.{unsigned_abs}
@@ -13,8 +13,8 @@ use Rattle.tk_tour.specs.Tour.{tour_length, IsTour}
 use Rattle.tk_tour.specs.declared.store.TourStore as stores
 use Rattle.tk_descent.specs.Awake.{Awake}
 use Rattle.tk_descent.specs.Machine.{RunUnder, IsRunUnder}
-use Rattle.tk_descent.specs.Sweeps.{Sweeps, AreSweeps}
-use Rattle.tk_descent.specs.WakeMachine.{WakesUnder, IsLocalOptimum, each_cycle}
+use Rattle.tk_descent.specs.Sweeps.{SweepsUnder, AreSweepsUnder}
+use Rattle.tk_descent.specs.WakeMachine.{WakesUnder, IsLocalOptimumUnder, each_cycle}
 use Rattle.tk_descent.specs.declared.descent.Report.{Report}
 use Rattle.tk_descent.specs.declared.gains.Gains as gains
 use Rattle.tk_descent.specs.declared.offer.Offer.{Offer}
@@ -69,16 +69,22 @@ pub record DescentUnder (fits : List ℕ → Type 0) (may : List ℕ → Offer �
 abbrev pub Descent : Terms → Stand → Stand → Report → Type 0
 Descent = DescentUnder each_cycle everything
 
--- Descents with all cities awake end with a local optimum, and with no city awake.
-pub record Sweeping (by : Terms) (from to : Stand) (report : SweptReport) : Type 0 where
-  pub sweeps : (tests : ℕ) × Sweeps by.distance (near_of by.near) by.or_segment from.tour to.tour report.passes
+-- Descents with all cities awake end with a local optimum that fits, and with no city awake.
+pub record SweepingUnder (fits : List ℕ → Type 0) (may : List ℕ → Offer → Bool) (by : Terms) (from to : Stand)
+    (report : SweptReport) : Type 0 where
+  pub sweeps : (tests : ℕ) × SweepsUnder may by.distance (near_of by.near) by.or_segment from.tour to.tour report.passes
       report.descent.looks report.descent.moves tests × (to.tests ≡ saturated (from.tests + tests))
-  pub fresh : from.tests ≡ 0 → AreSweeps by.distance by.near by.or_segment from.tour to.tour report
-  pub optimum : IsLocalOptimum by.distance (near_of by.near) by.or_segment to.tour
+  pub fresh : from.tests ≡ 0 → AreSweepsUnder may by.distance by.near by.or_segment from.tour to.tour report
+  pub optimum : IsLocalOptimumUnder fits by.distance (near_of by.near) by.or_segment to.tour
   pub asleep : to.awake ≡ []
   pub tour : IsTour (length from.tour) to.tour
+  pub fitting : fits to.tour
   pub passes : report.passes ≤ report.descent.moves + 1
   pub reported : IsReported by from to (length from.tour * report.passes) report.descent
+
+-- sweeps of the TSP
+abbrev pub Sweeping : Terms → Stand → Stand → SweptReport → Type 0
+Sweeping = SweepingUnder each_cycle everything
 
 -- where a descent stands with a tour and the cities that are awake, after so many tests
 abbrev pub stand : {S : Type 0} → stores.Ghosts S → S → Awake → ℕ → Stand
@@ -105,6 +111,15 @@ IsDescent store gains near or_segment (tour, waking, made) (tour', waking', made
     Descent (record { distance = gains.distance made; near = near; or_segment = or_segment })
     (stand store tour waking (gains.test_count made)) (stand store tour' waking' (gains.test_count made'))
 
+-- sweeps by gains and near lists under a rule, from a tour, its waking cities and gains to others
+abbrev pub IsSweepingUnder : {S G R : Type 0} → stores.Ghosts S → gains.Ghosts G → rules.Ghosts R → R → NearLists → ℕ →
+    S × Awake × G → S × Awake × G → SweptReport → Type 0
+IsSweepingUnder store gains ruling rule near or_segment (tour, waking, made) (tour', waking', made') =
+    SweepingUnder (ruling.Fits rule) (ruling.allowed rule)
+    (record { distance = gains.distance made; near = near; or_segment = or_segment })
+    (stand store tour waking (gains.test_count made)) (stand store tour' waking' (gains.test_count made'))
+
+-- sweeps by gains and near lists, from a tour, its waking cities and gains to others
 abbrev pub IsSweeping : {S G : Type 0} → stores.Ghosts S → gains.Ghosts G → NearLists → ℕ → S × Awake × G →
     S × Awake × G → SweptReport → Type 0
 IsSweeping store gains near or_segment (tour, waking, made) (tour', waking', made') =

@@ -1,11 +1,12 @@
 //! Descents until a tour is a local optimum.
 ghost use Rattle.std.specs.Prelude.{◌≡◌, pos, ◌*◌, ◌≤◌, [], length};
 ghost use Rattle.tk_tour.specs.Tour.{tour_length};
-ghost use Rattle.tk_descent.specs.Descents.{IsSweeping, AreOfSize};
+ghost use Rattle.tk_descent.specs.Descents.{IsSweeping, IsSweepingUnder, AreOfSize};
 
-use crate::descent::{Report, descend};
+use crate::descent::{Report, descend_under};
 use crate::gains::Gains;
 use crate::on_tour::size;
+use crate::rule::{Everything, Rule};
 use crate::waking::Waking;
 use tk_near::Near;
 use tk_tour::TourStore;
@@ -27,10 +28,12 @@ fn put_to_sleep(waking: &mut Waking)
     while let Some(_city) = waking.take() {}
 }
 
-/// Descends with all cities awake, again and again, until a pass makes no move. Whatever was awake before.
-pub fn descend_swept<S: TourStore, G: Gains>(
+/// Descends under a rule with all cities awake, again and again, until a pass makes no move: then no city has an offer
+/// with positive gain that the rule allows. Which cities are awake before does not matter.
+pub fn descend_swept_under<S: TourStore, G: Gains, R: Rule>(
     tour: &mut S,
     gains: &mut G,
+    rule: &R,
     near: &Near,
     waking: &mut Waking,
     or_segment: u32,
@@ -39,7 +42,8 @@ pub fn descend_swept<S: TourStore, G: Gains>(
     requires fits { AreOfSize (length (S.cities tour.old)) (G.size_of gains.old) near.now.size waking.old.size }
     requires most { (1 ≤ or_segment) × (or_segment ≤ 3) }
     requires before { before ≡ pos (tour_length (G.distance gains.old) (S.cities tour.old)) }
-    ensures sweeping { IsSweeping S.TourStore G.Gains near.now or_segment
+    requires tour { R.Fits rule.now (S.cities tour.old) }
+    ensures sweeping { IsSweepingUnder S.TourStore G.Gains R.Rule rule.now near.now or_segment
         (tour.old, waking.old, gains.old) (tour.new, waking.new, gains.new) result }
     ensures flips_only { S.FlipsOnly tour.old tour.new }
     ensures stored { length near.now.entries ≡ length (S.cities tour.old) * near.now.width }
@@ -55,7 +59,7 @@ pub fn descend_swept<S: TourStore, G: Gains>(
     let mut moves = 0u64;
     'sweeping: loop {
         waking.wake_all();
-        let pass = descend(tour, gains, near, waking, or_segment, after);
+        let pass = descend_under(tour, gains, rule, near, waking, or_segment, after);
         after = pass.after;
         passes += 1;
         looks = looks.saturating_add(pass.looks);
@@ -74,4 +78,27 @@ pub fn descend_swept<S: TourStore, G: Gains>(
             };
         }
     }
+}
+
+/// Descends with all cities awake, again and again, until a pass makes no move. Whatever was awake before.
+#[inline]
+pub fn descend_swept<S: TourStore, G: Gains>(
+    tour: &mut S,
+    gains: &mut G,
+    near: &Near,
+    waking: &mut Waking,
+    or_segment: u32,
+    before: i64,
+) -> SweptReport
+    requires fits { AreOfSize (length (S.cities tour.old)) (G.size_of gains.old) near.now.size waking.old.size }
+    requires most { (1 ≤ or_segment) × (or_segment ≤ 3) }
+    requires before { before ≡ pos (tour_length (G.distance gains.old) (S.cities tour.old)) }
+    ensures sweeping { IsSweeping S.TourStore G.Gains near.now or_segment
+        (tour.old, waking.old, gains.old) (tour.new, waking.new, gains.new) result }
+    ensures flips_only { S.FlipsOnly tour.old tour.new }
+    ensures stored { length near.now.entries ≡ length (S.cities tour.old) * near.now.width }
+    ensures table { (G.distance gains.new ≡ G.distance gains.old) × (G.size_of gains.new ≡ G.size_of gains.old) }
+    ensures sizes { (length (S.cities tour.new) ≡ length (S.cities tour.old)) × (waking.new.size ≡ waking.old.size) }
+{
+    descend_swept_under(tour, gains, &Everything, near, waking, or_segment, before)
 }

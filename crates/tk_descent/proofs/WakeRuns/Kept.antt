@@ -1,16 +1,18 @@
 -- What runs keep: a tour stays a tour, and looks are paid by the queue and by moves.
 use Rattle.std.proofs.Common.{ℕ, ◌+◌, ◌*◌, ◌≤◌, List, ◌∷◌, length, refl, ◌∙◌, arith}
 use Rattle.tk_tour.specs.Tour.{IsSizedTour}
+use Rattle.tk_descent.specs.Offers.{everything}
 use Rattle.tk_descent.specs.Machine.{Run}
 use Rattle.tk_descent.specs.Machine.RunUnder.{start, asleep, move}
 use Rattle.tk_descent.specs.Sweeps.{Moving, Sweeps}
-use Rattle.tk_descent.specs.Sweeps.Moving.{start as begin, pass}
-use Rattle.tk_descent.specs.WakeMachine.{IsLocalOptimum}
+use Rattle.tk_descent.specs.Sweeps.MovingUnder.{start as begin, pass}
+use Rattle.tk_descent.specs.WakeMachine.{IsLocalOptimum, each_cycle}
 use Rattle.tk_descent.proofs.MovesOnTours.Paths.{IsTable}
 use Rattle.tk_descent.proofs.MovesOnTours.Rounds.{round_of}
 use Rattle.tk_descent.proofs.MovesOnTours.Cities.{made_cities}
 use Rattle.tk_descent.proofs.MovesOnTours.Steps.{HasSameCities}
 use Rattle.tk_descent.proofs.WakeRuns.DescentSteps.{queue_left}
+use Rattle.tk_descent.proofs.WakeRuns.Machines.{rules_nothing}
 use Rattle.tk_descent.proofs.WakeRuns.Passes.{pass_optimum}
 
 made_tour : (C D : List ℕ) → HasSameCities C D → IsSizedTour C → IsSizedTour D
@@ -46,4 +48,5 @@ module _ (d : ℕ → ℕ → ℕ) (near : ℕ → List ℕ) (m : ℕ) (T : List
   pub sweeps_optimum : {D : List ℕ} {passes looks moves tests : ℕ} → IsTable d → m ≤ 3 →
       Sweeps d near m T D passes looks moves tests → IsLocalOptimum d near m D
   sweeps_optimum {D} is small s =
-      pass_optimum d near m s.tour D s.more 0 s.tried is small (round_of s.tour (moving_tour s.chain)) s.last refl
+      pass_optimum each_cycle everything d near m s.tour D s.more 0 s.tried rules_nothing is small
+      (round_of s.tour (moving_tour s.chain)) tt s.last refl

@@ -7,13 +7,14 @@ use Rattle.std.proofs.lemmas.Bool.{cases_eq}
 use Rattle.tk_tour.specs.Tour.{next_city, prev_city}
 use Rattle.tk_descent.proofs.MovesOnTours.Cities.{distinct_made}
 use Rattle.tk_descent.proofs.MovesOnTours.Paths.{IsTable}
-use Rattle.tk_descent.specs.Offers.{offers_between, first_allowed, first_gain, is_taken, improves, or_offer}
-use Rattle.tk_descent.specs.Offers.{or_offers, offers, segments, removed, added, ends, everything, any, Makes}
+use Rattle.tk_descent.specs.Offers.{offers_between, first_allowed, is_taken, improves, or_offer, or_offers, offers}
+use Rattle.tk_descent.specs.Offers.{segments, removed, added, ends, everything, Makes}
 use Rattle.tk_descent.specs.Awake.{woken, woken_each}
 use Rattle.tk_distance.specs.Holding.{IsDistinct, holds}
-use Rattle.tk_descent.specs.Machine.{Run, RunUnder, IsOfferOn}
+use Rattle.tk_descent.specs.Machine.{RunUnder, IsOfferOn}
 use Rattle.tk_descent.specs.Machine.RunUnder.{start, asleep, move}
-use Rattle.tk_descent.specs.WakeMachine.{IsOfferOf, Improves, HasNoOfferUnder, IsLocalOptimum, WakesUnder, each_cycle}
+use Rattle.tk_descent.specs.WakeMachine.{IsOfferOf, ImprovesUnder, HasNoOfferUnder, IsLocalOptimumUnder}
+use Rattle.tk_descent.specs.WakeMachine.{WakesUnder, each_cycle}
 use Rattle.tk_descent.specs.WakeMachine.WakesUnder.{start as begin, asleep as fall_asleep, move as go_on}
 use Rattle.tk_descent.proofs.OfferLists.Listed.{IsListed}
 use Rattle.tk_descent.specs.declared.offer.Segment.{Segment}
@@ -185,19 +186,20 @@ module _ (fits : List ℕ → Type 0) (may : List ℕ → Offer → Bool) (d : �
   run_fits r = (run_wakes_all r).3
 
 -- a run without a move leaves the cycle, and puts to sleep only cities without an offer
-pub still : (d : ℕ → ℕ → ℕ) (near : ℕ → List ℕ) (m : ℕ) (T W : List ℕ) {C V : List ℕ} {looks moves tests : ℕ} →
-    Run d near m T W C V looks moves tests → moves ≡ 0 →
-    (C ≡ T) × ((c : ℕ) → holds W c ≡ true → (holds V c ≡ true) ⊎ (first_gain d (offers T m (near c) c) ≡ None))
+pub still : {may : List ℕ → Offer → Bool} (d : ℕ → ℕ → ℕ) (near : ℕ → List ℕ) (m : ℕ) (T W : List ℕ) {C V : List ℕ}
+    {looks moves tests : ℕ} → RunUnder may d near m T W C V looks moves tests → moves ≡ 0 →
+    (C ≡ T)
+    × ((c : ℕ) → holds W c ≡ true → (holds V c ≡ true) ⊎ (first_allowed d (may T) (offers T m (near c) c) ≡ None))
 still d near m T W start z = (refl, λ c h. inl h)
-still d near m T W (asleep {C = C} {V = V} {x = x} r e) z =
+still {may} d near m T W (asleep {C = C} {V = V} {x = x} r e) z =
     let i = still d near m T W r z in (
       i.0,
       λ c h. elim (i.1 c h) [
         | inl k ↦
             elim (or_cases (eqb x c) (holds V c) k) [
               | inl j ↦ inr
-                  (subst (λ v. first_gain d (offers T m (near v) v) ≡ None) (eqb-true x c j)
-                  (subst (λ v. first_gain d (offers v m (near x) x) ≡ None) i.0 e))
+                  (subst (λ v. first_allowed d (may T) (offers T m (near v) v) ≡ None) (eqb-true x c j)
+                  (subst (λ v. first_allowed d (may v) (offers v m (near x) x) ≡ None) i.0 e))
               | inr j ↦ inl j
             ]
         | inr k ↦ inr k
@@ -205,25 +207,27 @@ still d near m T W (asleep {C = C} {V = V} {x = x} r e) z =
     )
 still d near m T W (move r e made) z = absurd (omega arith)
 
-pub still_optimum : (d : ℕ → ℕ → ℕ) (near : ℕ → List ℕ) (m : ℕ) (T W C : List ℕ) (looks moves tests : ℕ) → IsTable d →
-    m ≤ 3 → IsDistinct T → ((c : ℕ) → holds T c ≡ true → holds W c ≡ true) → Run d near m T W C [] looks moves tests →
-    moves ≡ 0 → IsLocalOptimum d near m C
-still_optimum d near m T W C looks moves tests is small dis all r z =
-    let i = still d near m T W r z in
-    subst (λ v. IsLocalOptimum d near m v) (sym i.0)
-    (λ x h. elim (i.1 x (all x h)) [
-      | inl k ↦ absurd (both_ways false refl k)
-      | inr k ↦ none_improves each_cycle everything d near m x T rules_nothing is dis tt small k
-    ])
+module _ (fits : List ℕ → Type 0) (may : List ℕ → Offer → Bool) (rule : IsRuleOn fits may) where
+  pub still_optimum : (d : ℕ → ℕ → ℕ) (near : ℕ → List ℕ) (m : ℕ) (T W C : List ℕ) (looks moves tests : ℕ) →
+      IsTable d → m ≤ 3 → IsDistinct T → fits T → ((c : ℕ) → holds T c ≡ true → holds W c ≡ true) →
+      RunUnder may d near m T W C [] looks moves tests → moves ≡ 0 → IsLocalOptimumUnder fits d near m C
+  still_optimum d near m T W C looks moves tests is small dis fit all r z =
+      let i = still d near m T W r z in
+      subst (λ v. IsLocalOptimumUnder fits d near m v) (sym i.0)
+      (λ x h. elim (i.1 x (all x h)) [
+        | inl k ↦ absurd (both_ways false refl k)
+        | inr k ↦ none_improves fits may d near m x T rule is dis fit small k
+      ])
 
-pub some_improves : (d : ℕ → ℕ → ℕ) (near : ℕ → List ℕ) (m x : ℕ) (C : List ℕ) (o : Offer) → IsTable d →
-    first_gain d (offers C m (near x) x) ≡ Some o → IsOfferOn m o C → (D : List ℕ) × Improves d near m x C o D
-some_improves d near m x C o is e (D, made) = (
-  D,
-  (
-    (found_from d any near m x C o e).0,
-    made,
-    omega (arith, gain_law d is.0 C D m o made, found_improves d any (offers C m (near x) x) o e),
-    tt,
-  ),
-)
+  pub some_improves : (d : ℕ → ℕ → ℕ) (near : ℕ → List ℕ) (m x : ℕ) (C : List ℕ) (o : Offer) → IsTable d → m ≤ 3 →
+      IsDistinct C → fits C → first_allowed d (may C) (offers C m (near x) x) ≡ Some o → IsOfferOn m o C →
+      (D : List ℕ) × ImprovesUnder fits d near m x C o D
+  some_improves d near m x C o is small dis fit e (D, made) = (
+    D,
+    (
+      (found_from d (may C) near m x C o e).0,
+      made,
+      omega (arith, gain_law d is.0 C D m o made, found_improves d (may C) (offers C m (near x) x) o e),
+      (rule o C D dis fit (more_made m o C D small made)).0 (found_allowed d (may C) (offers C m (near x) x) o e),
+    ),
+  )

@@ -1,6 +1,6 @@
 -- Several passes.
-use Rattle.std.proofs.Common.{◌≡◌, ℕ, ◌+◌, ◌-◌, ◌*◌, ◌/◌, ◌≤◌, List, [], length, refl, sym, ◌∙◌, ap, arith, subst, ℤ}
-use Rattle.std.proofs.Common.{pos, FitsSigned, w64, to_z, of_z}
+use Rattle.std.proofs.Common.{◌≡◌, ℕ, ◌+◌, ◌-◌, ◌*◌, ◌/◌, ◌≤◌, Bool, List, [], length, refl, sym, ◌∙◌, ap, arith}
+use Rattle.std.proofs.Common.{subst, ℤ, pos, FitsSigned, w64, to_z, of_z}
 use Rattle.std.proofs.lemmas.Int.{to_z-of_z}
 use Rattle.tk_problem.specs.declared.limits.TheConstants.{CITY_LIMIT}
 use Rattle.tk_near.specs.Near.{NearLists}
@@ -10,26 +10,29 @@ use Rattle.tk_descent.proofs.MovesOnTours.Paths.{IsRound, IsTable}
 use Rattle.tk_descent.specs.Awake.{woken_each, one_to}
 use Rattle.tk_descent.specs.Descents.{IsReported, Stand, Terms}
 use Rattle.tk_descent.specs.declared.descent.Report.{Report}
-use Rattle.tk_descent.specs.Machine.{Run}
-use Rattle.tk_descent.specs.Sweeps.{Pass, Moving, Sweeps}
-use Rattle.tk_descent.specs.WakeMachine.{IsLocalOptimum}
+use Rattle.tk_descent.specs.declared.offer.Offer.{Offer}
+use Rattle.tk_descent.specs.Machine.{RunUnder}
+use Rattle.tk_descent.specs.Sweeps.{PassUnder, MovingUnder, SweepsUnder}
+use Rattle.tk_descent.specs.WakeMachine.{IsLocalOptimumUnder}
 use Rattle.tk_descent.proofs.WakeRuns.Woken.{woken_all, one_to-holds}
-use Rattle.tk_descent.proofs.WakeRuns.Machines.{still_optimum}
+use Rattle.tk_descent.proofs.WakeRuns.Machines.{IsRuleOn, still_optimum}
 use Rattle.tk_descent.proofs.WakeRuns.DescentSteps.{fits_length, length_fits}
 
 pub all_awake : (Q V : List ℕ) (n k : ℕ) → Q ≡ woken_each V (one_to n) → V ≡ [] → n ≡ k → Q ≡ one_to k
 all_awake Q V n k h e same = h ∙ ap (λ z. woken_each z (one_to n)) e ∙ woken_all n ∙ ap one_to same
 
-pub pass_of : (d e : ℕ → ℕ → ℕ) (near : ℕ → List ℕ) (m : ℕ) (C D Q : List ℕ) (looks moves tests : ℕ) → e ≡ d →
-    Q ≡ one_to (length C) → Run e near m C Q D [] looks moves tests → Pass d near m C D looks moves tests
-pass_of d e near m C D Q looks moves tests same front r =
-    subst (λ z. Run z near m C (one_to (length C)) D [] looks moves tests) same
-    (subst (λ z. Run e near m C z D [] looks moves tests) front r)
+pub pass_of : {may : List ℕ → Offer → Bool} (d e : ℕ → ℕ → ℕ) (near : ℕ → List ℕ) (m : ℕ) (C D Q : List ℕ)
+    (looks moves tests : ℕ) → e ≡ d → Q ≡ one_to (length C) → RunUnder may e near m C Q D [] looks moves tests →
+    PassUnder may d near m C D looks moves tests
+pass_of {may} d e near m C D Q looks moves tests same front r =
+    subst (λ z. RunUnder may z near m C (one_to (length C)) D [] looks moves tests) same
+    (subst (λ z. RunUnder may e near m C z D [] looks moves tests) front r)
 
-pub pass_optimum : (d : ℕ → ℕ → ℕ) (near : ℕ → List ℕ) (m : ℕ) (C D : List ℕ) (looks moves tests : ℕ) → IsTable d →
-    m ≤ 3 → IsRound C → Pass d near m C D looks moves tests → moves ≡ 0 → IsLocalOptimum d near m D
-pass_optimum d near m C D looks moves tests is small tour r z =
-    still_optimum d near m C (one_to (length C)) D looks moves tests is small tour.distinct
+pub pass_optimum : (fits : List ℕ → Type 0) (may : List ℕ → Offer → Bool) (d : ℕ → ℕ → ℕ) (near : ℕ → List ℕ) (m : ℕ)
+    (C D : List ℕ) (looks moves tests : ℕ) → IsRuleOn fits may → IsTable d → m ≤ 3 → IsRound C → fits C →
+    PassUnder may d near m C D looks moves tests → moves ≡ 0 → IsLocalOptimumUnder fits d near m D
+pass_optimum fits may d near m C D looks moves tests rule is small tour fit r z =
+    still_optimum fits may rule d near m C (one_to (length C)) D looks moves tests is small tour.distinct fit
     (λ c h. let k = (tour.members c).0 h in one_to-holds (length C) c k.0 k.1) r z
 
 pub after_bits : (d e : ℕ → ℕ → ℕ) (C : List ℕ) (z : ℤ) → IsTable d → e ≡ d → length C ≤ CITY_LIMIT →
@@ -84,14 +87,14 @@ IsReported-more {by} {from} {looks = looks} {more = more} {every = every} {one =
       rises = (omega (arith, h.rises.0, k.rises.0), omega (arith, h.rises.1, k.rises.1));
     }
 
-pub swept : (d : ℕ → ℕ → ℕ) (near : ℕ → List ℕ) (m : ℕ) (T C D : List ℕ)
-    (passes looks moves tests more made tried all every : ℕ) → Moving d near m T C passes looks moves tests →
-    Pass d near m C D more made tried → made ≡ 0 →
+pub swept : {may : List ℕ → Offer → Bool} (d : ℕ → ℕ → ℕ) (near : ℕ → List ℕ) (m : ℕ) (T C D : List ℕ)
+    (passes looks moves tests more made tried all every : ℕ) → MovingUnder may d near m T C passes looks moves tests →
+    PassUnder may d near m C D more made tried → made ≡ 0 →
     all ≡ saturated (looks + more) → every ≡ saturated (tests + tried) →
-    Sweeps d near m T D (passes + 1) all (moves + made) every
-swept d near m T C D passes looks moves tests more made tried all every chain last none sum count =
+    SweepsUnder may d near m T D (passes + 1) all (moves + made) every
+swept {may} d near m T C D passes looks moves tests more made tried all every chain last none sum count =
     let same : moves + made ≡ moves = omega arith in
-    subst (λ z. Sweeps d near m T D (passes + 1) all z every) (sym same) (record {
+    subst (λ z. SweepsUnder may d near m T D (passes + 1) all z every) (sym same) (record {
       tour = C;
       moving = passes;
       looked = looks;
@@ -99,7 +102,7 @@ swept d near m T C D passes looks moves tests more made tried all every chain la
       tested = tests;
       tried = tried;
       chain = chain;
-      last = subst (λ z. Pass d near m C D more z tried) none last;
+      last = subst (λ z. PassUnder may d near m C D more z tried) none last;
       passes_are = refl;
       looks_are = sum;
       tests_are = count;
@@ -111,10 +114,10 @@ pub count_pass : (before t u tests tried : ℕ) → t ≡ saturated (before + te
 count_pass before t u tests tried h j = omega (arith, h, j)
 
 -- a counter from nothing counts as the passes do
-pub fresh_sweep : (d : ℕ → ℕ → ℕ) (near : ℕ → List ℕ) (m : ℕ) (T D : List ℕ)
-    (passes looks moves tests before after r : ℕ) → Sweeps d near m T D passes looks moves tests →
+pub fresh_sweep : {may : List ℕ → Offer → Bool} (d : ℕ → ℕ → ℕ) (near : ℕ → List ℕ) (m : ℕ) (T D : List ℕ)
+    (passes looks moves tests before after r : ℕ) → SweepsUnder may d near m T D passes looks moves tests →
     after ≡ saturated (before + tests) → r ≡ after - before → before ≡ 0 →
-    Sweeps d near m T D passes looks moves r
-fresh_sweep d near m T D passes looks moves tests before after r s h j z =
+    SweepsUnder may d near m T D passes looks moves r
+fresh_sweep {may} d near m T D passes looks moves tests before after r s h j z =
     let same : tests ≡ r = omega (arith, h, j, s.tests_are) in
-    subst (λ v. Sweeps d near m T D passes looks moves v) same s
+    subst (λ v. SweepsUnder may d near m T D passes looks moves v) same s

@@ -3,8 +3,8 @@ use Rattle.tk_near.specs.Near.{near_of}
 use Rattle.tk_tour.specs.Counters.{saturated}
 use Rattle.tk_tour.specs.Tour.{tour_length}
 use Rattle.tk_descent.specs.Descents.{IsReported, stand}
-use Rattle.tk_descent.specs.Sweeps.{Moving}
-use Rattle.tk_descent.proofs.sweep.descend_swept.Given as goal
+use Rattle.tk_descent.specs.Sweeps.{MovingUnder}
+use Rattle.tk_descent.proofs.sweep.descend_swept_under.Given as goal
 
 abbrev pub invariant-sweeping : goal.invariant-sweeping
 invariant-sweeping g l =
@@ -12,8 +12,10 @@ invariant-sweeping g l =
     let T = g.S.TourStore.cities l.fn.tour in
     let C = g.S.TourStore.cities l.tour in
     record {
-      chain : (tests : ℕ) × Moving dist (near_of l.near) l.or_segment T C l.passes l.looks l.moves tests
+      chain : (tests : ℕ) × MovingUnder (g.R.Rule.allowed l.rule) dist (near_of l.near) l.or_segment T C l.passes
+          l.looks l.moves tests
           × (g.G.Gains.test_count l.gains ≡ saturated (g.G.Gains.test_count l.fn.gains + tests));
+      fitting : g.R.Rule.Fits l.rule C;
       table : g.G.Gains.distance l.gains ≡ dist;
       range : g.G.Gains.size_of l.gains ≡ length T;
       size : length C ≡ length T;
