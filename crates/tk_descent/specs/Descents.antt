@@ -1,10 +1,12 @@
--- Descents, with all that is known of them.
---     Terms, Stand      what a descent goes by, and where it stands
---     Descent      a descent from one stand to another, with its report
---     Sweeping      descents with all cities awake, until one makes no move, with their report
---     IsDescent, IsSweeping      the same of a tour, its waking cities and gains
---     DescentUnder, SweepingUnder, IsDescentUnder, IsSweepingUnder      the same under a rule
---     AreOfSize      gains, near lists and waking cities that go with a tour
+-- Descents and their reports.
+--     Terms, Stand      the input and the state of a descent
+--     Descent      a descent from one state to another, with its report
+--     Sweeping      a swept descent: passes with all cities awake, until one makes no move
+--     IsDescent, IsSweeping      a descent and a swept descent, from a tour, waking cities and gains to those after it
+--     DescentUnder, SweepingUnder, IsDescentUnder, IsSweepingUnder      descents and swept descents under a rule
+--     AreOfSize      gains, near lists and waking cities for a number of cities
+-- A rule is given by `fits`, the cycles that fit, and `may`: the offer o is allowed on the cycle C if `may C o` is
+-- true.
 use Rattle.std.specs.Prelude.{◌≡◌, ℕ, ◌+◌, ◌-◌, ◌*◌, ◌/◌, ◌≤◌, ◌-ℤ◌, Bool, List, [], length, pos}
 use Rattle.std.specs.Int.RustNames.{unsigned_abs}
 use Rattle.tk_near.specs.Near.{NearLists, near_of}
@@ -22,13 +24,13 @@ use Rattle.tk_descent.specs.declared.rule.Rule as rules
 use Rattle.tk_descent.specs.Offers.{everything}
 use Rattle.tk_descent.specs.declared.sweep.SweptReport.{SweptReport}
 
--- what a descent goes by: distances, near lists, and the greatest number of cities that an Or-move moves
+-- the input of a descent: distances, near lists, and the maximum number of cities in the segment of an Or-opt move
 pub record Terms : Type 0 where
   pub distance : ℕ → ℕ → ℕ
   pub near : NearLists
   pub or_segment : ℕ
 
--- where a descent stands: the tour, the cities that are awake, and how many tests, swaps and flips were counted
+-- the state of a descent: the tour, the cities that are awake, and the numbers of tests, swaps and flips so far
 pub record Stand : Type 0 where
   pub tour : List ℕ
   pub awake : List ℕ
@@ -36,11 +38,11 @@ pub record Stand : Type 0 where
   pub swaps : ℕ
   pub flips : ℕ
 
--- what made the tour shorter by
+-- by how much a descent shortened the tour
 abbrev pub saved : Report → ℕ
 saved report = unsigned_abs (report.before -ℤ report.after)
 
--- What a report says of descents that begin with so many looks, and then make at most six for each move.
+-- The report of descents that begin with `looks` looks, and then make at most six for each move.
 pub record IsReported (by : Terms) (from to : Stand) (looks : ℕ) (report : Report) : Type 0 where
   pub before : report.before ≡ pos (tour_length by.distance from.tour)
   pub after : report.after ≡ pos (tour_length by.distance to.tour)
@@ -53,7 +55,8 @@ pub record IsReported (by : Terms) (from to : Stand) (looks : ℕ) (report : Rep
   pub flips_most : to.flips ≤ from.flips + 3 * report.moves
   pub rises : (from.tests ≤ to.tests) × (from.swaps ≤ to.swaps)
 
--- A descent ends with a tour of the same cities that fits, and with no city awake. Tests saturate at 2^64 - 1.
+-- A descent ends with a tour of the same cities that fits, and with no city awake. Counters of tests saturate at
+-- 2^64 - 1.
 pub record DescentUnder (fits : List ℕ → Type 0) (may : List ℕ → Offer → Bool) (by : Terms) (from to : Stand)
     (report : Report) : Type 0 where
   pub run : (tests : ℕ) × RunUnder may by.distance (near_of by.near) by.or_segment from.tour from.awake to.tour []
@@ -69,7 +72,7 @@ pub record DescentUnder (fits : List ℕ → Type 0) (may : List ℕ → Offer �
 abbrev pub Descent : Terms → Stand → Stand → Report → Type 0
 Descent = DescentUnder each_cycle everything
 
--- Descents with all cities awake end with a local optimum that fits, and with no city awake.
+-- A swept descent ends with a local optimum that fits, and with no city awake.
 pub record SweepingUnder (fits : List ℕ → Type 0) (may : List ℕ → Offer → Bool) (by : Terms) (from to : Stand)
     (report : SweptReport) : Type 0 where
   pub sweeps : (tests : ℕ) × SweepsUnder may by.distance (near_of by.near) by.or_segment from.tour to.tour report.passes
@@ -82,11 +85,11 @@ pub record SweepingUnder (fits : List ℕ → Type 0) (may : List ℕ → Offer 
   pub passes : report.passes ≤ report.descent.moves + 1
   pub reported : IsReported by from to (length from.tour * report.passes) report.descent
 
--- sweeps of the TSP
+-- a swept descent of the TSP
 abbrev pub Sweeping : Terms → Stand → Stand → SweptReport → Type 0
 Sweeping = SweepingUnder each_cycle everything
 
--- where a descent stands with a tour and the cities that are awake, after so many tests
+-- the state of a descent with this tour and these waking cities, after `tests` tests
 abbrev pub stand : {S : Type 0} → stores.Ghosts S → S → Awake → ℕ → Stand
 stand store tour waking tests = record {
   tour = store.cities tour;
@@ -96,7 +99,7 @@ stand store tour waking tests = record {
   flips = store.flip_count tour;
 }
 
--- a descent by gains and near lists under a rule, from a tour, its waking cities and gains to others
+-- a descent under a rule, from a tour, its waking cities and gains to those after it
 abbrev pub IsDescentUnder : {S G R : Type 0} → stores.Ghosts S → gains.Ghosts G → rules.Ghosts R → R → NearLists → ℕ →
     S × Awake × G → S × Awake × G → Report → Type 0
 IsDescentUnder store gains ruling rule near or_segment (tour, waking, made) (tour', waking', made') =
@@ -104,14 +107,14 @@ IsDescentUnder store gains ruling rule near or_segment (tour, waking, made) (tou
     (record { distance = gains.distance made; near = near; or_segment = or_segment })
     (stand store tour waking (gains.test_count made)) (stand store tour' waking' (gains.test_count made'))
 
--- a descent by gains and near lists, from a tour, its waking cities and gains to others
+-- a descent of the TSP, from a tour, its waking cities and gains to those after it
 abbrev pub IsDescent : {S G : Type 0} → stores.Ghosts S → gains.Ghosts G → NearLists → ℕ → S × Awake × G →
     S × Awake × G → Report → Type 0
 IsDescent store gains near or_segment (tour, waking, made) (tour', waking', made') =
     Descent (record { distance = gains.distance made; near = near; or_segment = or_segment })
     (stand store tour waking (gains.test_count made)) (stand store tour' waking' (gains.test_count made'))
 
--- sweeps by gains and near lists under a rule, from a tour, its waking cities and gains to others
+-- a swept descent under a rule, from a tour, its waking cities and gains to those after it
 abbrev pub IsSweepingUnder : {S G R : Type 0} → stores.Ghosts S → gains.Ghosts G → rules.Ghosts R → R → NearLists → ℕ →
     S × Awake × G → S × Awake × G → SweptReport → Type 0
 IsSweepingUnder store gains ruling rule near or_segment (tour, waking, made) (tour', waking', made') =
@@ -119,7 +122,7 @@ IsSweepingUnder store gains ruling rule near or_segment (tour, waking, made) (to
     (record { distance = gains.distance made; near = near; or_segment = or_segment })
     (stand store tour waking (gains.test_count made)) (stand store tour' waking' (gains.test_count made'))
 
--- sweeps by gains and near lists, from a tour, its waking cities and gains to others
+-- a swept descent of the TSP, from a tour, its waking cities and gains to those after it
 abbrev pub IsSweeping : {S G : Type 0} → stores.Ghosts S → gains.Ghosts G → NearLists → ℕ → S × Awake × G →
     S × Awake × G → SweptReport → Type 0
 IsSweeping store gains near or_segment (tour, waking, made) (tour', waking', made') =

@@ -1,4 +1,4 @@
--- The descent: one way to run the wake machine.
+-- Runs of a descent: one way to run the wake machine.
 use Rattle.std.specs.Prelude.{◌≡◌, ℕ, ◌+◌, Bool, List, ◌∷◌, Some, None}
 use Rattle.tk_near.specs.Near.{NearLists, near_of}
 use Rattle.tk_descent.specs.Offers.{offers, first_allowed, tests_until, everything, Makes, ends}
@@ -6,12 +6,12 @@ use Rattle.tk_descent.specs.Awake.{woken_each}
 use Rattle.tk_descent.specs.declared.descent.Report.{Report}
 use Rattle.tk_descent.specs.declared.offer.Offer.{Offer}
 
--- the offer has a result on the cycle
+-- the move of the offer can be made on the cycle
 abbrev pub IsOfferOn : ℕ → Offer → List ℕ → Type 0
 IsOfferOn m o C = (D : List ℕ) × Makes m o C D
 
--- A descent's steps from the tour T and the queue W, with the counts of looks, moves and tests so far. Each step takes
--- the front. On a cycle C the offers o may be made for which `may C o` is true.
+-- A run of a descent from the tour T and the queue W, with the numbers of looks, moves and tests so far. Each step
+-- looks at the first city of the queue. On a cycle C, the offer o is allowed if `may C o` is true.
 pub data RunUnder (may : List ℕ → Offer → Bool) (dist : ℕ → ℕ → ℕ) (near : ℕ → List ℕ) (m : ℕ) (T W : List ℕ) :
     List ℕ → List ℕ → ℕ → ℕ → ℕ → Type 0 where
   start : RunUnder may dist near m T W T W 0 0 0
@@ -24,11 +24,11 @@ pub data RunUnder (may : List ℕ → Offer → Bool) (dist : ℕ → ℕ → �
       RunUnder may dist near m T W D (woken_each V (ends o)) (looks + 1) (moves + 1)
       (tests + tests_until dist (may C) (offers C m (near x) x))
 
--- the steps where each offer may be made
+-- a run of the TSP: every offer is allowed
 abbrev pub Run : (ℕ → ℕ → ℕ) → (ℕ → List ℕ) → ℕ → List ℕ → List ℕ → List ℕ → List ℕ → ℕ → ℕ → ℕ → Type 0
 Run = RunUnder everything
 
--- a run with the looks, moves and tests that are reported
+-- a run with the numbers of looks, moves and tests of a report
 abbrev pub IsRunUnder : (List ℕ → Offer → Bool) → (ℕ → ℕ → ℕ) → NearLists → ℕ → List ℕ → List ℕ → List ℕ → List ℕ →
     Report → Type 0
 IsRunUnder may dist near m T W C V report =

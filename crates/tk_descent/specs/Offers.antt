@@ -1,9 +1,9 @@
--- The offers of a city: the moves that a look tries, in their order.
---     gain dist o      what an offer gains, by four or six distances
---     Makes m o old new      the result of the offer's move
+-- The offers of a city: the moves that a look tries, in order.
+--     gain dist o      the gain of an offer, from four or six distances
+--     Makes m o old new      the move of the offer o makes the cycle new of the cycle old
 --     offers C m near x      the offers of x on the cycle C
---     first_gain dist os, tests_to dist os      the first with positive gain, and how many are tested up to it
---     first_allowed dist may os, tests_until dist may os      the same of the first with positive gain that may be made
+--     first_gain dist os, tests_to dist os      the first offer with positive gain, and the number of tests up to it
+--     first_allowed dist may os, tests_until dist may os      the first that is also allowed, and the number of tests
 use Rattle.std.specs.Prelude.{◌≡◌, ℕ, suc, ℤ, pos, ◌-ℤ◌, ◌+◌, Bool, take, option_map, IfSome, ◌||◌, ◌&&◌, nat_lt}
 use Rattle.std.specs.Prelude.{nat_le, List, [], ◌∷◌, ◌++◌, ◌==◌, if◌then◌else◌, length, true, Option, Some, None}
 use Rattle.std.specs.Prelude.{flat_map}
@@ -17,12 +17,12 @@ use Rattle.tk_descent.specs.declared.offer.Segment.{Segment}
 use Rattle.tk_descent.specs.declared.offer.Found.{Found}
 use Rattle.tk_descent.specs.declared.offer.Offer.TheVariants.{Two, Or}
 
--- the distances of the steps that an offer removes
+-- the sum of the lengths of the edges that an offer removes
 abbrev pub removed : (ℕ → ℕ → ℕ) → Offer → ℕ
 removed dist (Two a b c d) = dist a b + dist c d
 removed dist (Or a x e b y w) = dist a x + dist e b + dist y w
 
--- the distances of the steps that an offer adds
+-- the sum of the lengths of the edges that an offer adds
 abbrev pub added : (ℕ → ℕ → ℕ) → Offer → ℕ
 added dist (Two a b c d) = dist a c + dist b d
 added dist (Or a x e b y w) = dist a b + dist x y + dist e w
@@ -38,7 +38,7 @@ abbrev pub ends : Offer → List ℕ
 ends (Two a b c d) = a ∷ b ∷ c ∷ d ∷ []
 ends (Or a x e b y w) = x ∷ a ∷ e ∷ b ∷ y ∷ w ∷ []
 
--- new is the result of the offer's move on the cycle old; the segment of an Or-move has at most m cities
+-- the move of the offer makes the cycle new of the cycle old; the segment of an Or-opt move has at most m cities
 abbrev pub Makes : ℕ → Offer → List ℕ → List ℕ → Type 0
 Makes m (Two a b c d) old new = TwoOptMove old new a b c d
 Makes m (Or a x e b y w) old new = OrMove m old new a x e b y w
@@ -47,7 +47,7 @@ Makes m (Or a x e b y w) old new = OrMove m old new a x e b y w
 abbrev pub shortening : (ℕ → ℕ → ℕ) → List ℕ → List ℕ → ℤ
 shortening dist C D = pos (tour_length dist C) -ℤ pos (tour_length dist D)
 
--- A segment has at most three cities: x, where it begins, `middle` and `last`. Of a shorter one some are the same.
+-- c is in the segment s, which begins at x. Its cities are x, `middle` and `last`, some of which may be equal.
 abbrev pub covers : ℕ → Segment → ℕ → Bool
 covers x s c = (c == x) || (c == s.middle) || (c == s.last)
 
@@ -61,12 +61,13 @@ abbrev pub segment_of_three : (ℕ → ℕ) → (ℕ → ℕ) → ℕ → Segmen
 segment_of_three ahead back x =
     record { before = back x; middle = ahead x; last = ahead (ahead x); after = ahead (ahead (ahead x)) }
 
--- on n cities there are segments of at most n - 2, and of at most m: one, and for each greater length two
+-- The number of segments from a city: they have at most m cities and at most n - 2. One has one city, and there are two
+-- of each greater length.
 abbrev pub segment_count : ℕ → ℕ → ℕ
 segment_count n m =
     if nat_le 5 n && nat_le 3 m then 5 else (if nat_le 4 n && nat_le 2 m then 3 else (if nat_le 3 n then 1 else 0))
 
--- the segments that begin at x: of one city, of two forward and backward, of three forward and backward
+-- the segments that begin at x: one city, then two cities forwards and backwards, then three forwards and backwards
 abbrev pub all_segments : (ℕ → ℕ) → (ℕ → ℕ) → ℕ → List Segment
 all_segments next prev x =
     segment_of_one next prev x ∷ segment_of_two next prev x ∷ segment_of_two prev next x ∷ segment_of_three next prev x
@@ -75,7 +76,7 @@ all_segments next prev x =
 abbrev pub segments : (ℕ → ℕ) → (ℕ → ℕ) → ℕ → ℕ → ℕ → List Segment
 segments next prev n m x = take (segment_count n m) (all_segments next prev x)
 
--- the Or-offer of a segment between y and w, where neither lies in it
+-- the Or-opt offer of a segment between y and w, if neither lies in the segment
 abbrev pub or_offer : ℕ → ℕ → Segment → ℕ → List Offer
 or_offer x y s w = if covers x s y || covers x s w then [] else Or s.before x s.last s.after y w ∷ []
 
@@ -96,32 +97,33 @@ offers_between C m x =
 abbrev pub offers : List ℕ → ℕ → List ℕ → ℕ → List Offer
 offers C m near x = flat_map (offers_between C m x) near
 
--- the offer may be made, and has positive gain
+-- the offer is allowed and has positive gain
 abbrev pub is_taken : (ℕ → ℕ → ℕ) → (Offer → Bool) → Offer → Bool
 is_taken dist may o = may o && improves dist o
 
--- the first with positive gain that may be made
+-- the first offer that is allowed and has positive gain
 abbrev pub first_allowed : (ℕ → ℕ → ℕ) → (Offer → Bool) → List Offer → Option Offer
 first_allowed dist may [] = None
 first_allowed dist may (o ∷ os) = if is_taken dist may o then Some o else first_allowed dist may os
 
--- its place, or the length of the list
+-- the position of that offer, counted from 1, or the length of the list if there is none
 abbrev pub tests_until : (ℕ → ℕ → ℕ) → (Offer → Bool) → List Offer → ℕ
 tests_until dist may [] = 0
 tests_until dist may (o ∷ os) = if is_taken dist may o then 1 else suc (tests_until dist may os)
 
--- each offer may be made
+-- every offer is allowed
 abbrev pub any : Offer → Bool
 any o = true
 
--- on each cycle
+-- every offer is allowed on every cycle
 abbrev pub everything : List ℕ → Offer → Bool
 everything C = any
 
+-- the first offer with positive gain
 abbrev pub first_gain : (ℕ → ℕ → ℕ) → List Offer → Option Offer
 first_gain dist os = first_allowed dist any os
 
--- the place of the first with positive gain, or the length of the list
+-- the position of that offer, counted from 1, or the length of the list if there is none
 abbrev pub tests_to : (ℕ → ℕ → ℕ) → List Offer → ℕ
 tests_to dist os = tests_until dist any os
 
@@ -129,8 +131,8 @@ tests_to dist os = tests_until dist any os
 abbrev pub offers_at : List ℕ → ℕ → NearLists → ℕ → List Offer
 offers_at C m near x = offers C m (near_of near x) x
 
--- A search of a list that ends at its first offer with positive gain that may be made; t and u are the tests before and
--- after.
+-- A search of a list up to its first offer that is allowed and has positive gain. The numbers of tests before and after
+-- it are t and u.
 pub record Searched (dist : ℕ → ℕ → ℕ) (may : Offer → Bool) (os : List Offer) (r : Option Found) (t u : ℕ) :
     Type 0 where
   pub found : option_map (λ f. f.offer) r ≡ first_allowed dist may os

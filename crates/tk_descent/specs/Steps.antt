@@ -1,27 +1,27 @@
--- What is remembered of the steps of a tour.
+-- A cache of edge lengths.
 use Rattle.std.specs.Prelude.{◌≡◌, ℕ, ◌+◌, ◌<◌, ◌==◌, ◌||◌, Bool, List, [], length, Some, None, slice_index_or}
 use Rattle.tk_descent.specs.declared.steps.Measured.{Measured}
 use Rattle.tk_descent.specs.declared.steps.Steps.{Steps}
 
--- a city is one of the two
+-- the entry has the distance to the city
 abbrev pub knows : Measured → ℕ → Bool
 knows known city = city == known.one || city == known.other
 
--- it is as far from a city to each of the two as is remembered
+-- the distances of an entry are those from the city
 abbrev pub IsMeasured : (ℕ → ℕ → ℕ) → ℕ → Measured → Type 0
 IsMeasured distance city known =
     (0 < known.one → known.to_one ≡ distance city known.one)
     × (0 < known.other → known.to_other ≡ distance city known.other)
 
--- so it is from each of the cities 1, 2, ..
+-- so are those of the entries of the cities 1, 2, ..
 abbrev pub AreMeasured : (ℕ → ℕ → ℕ) → List Measured → Type 0
 AreMeasured distance steps =
     (k : ℕ) (d : Measured) → k < length steps → IsMeasured distance (k + 1) (slice_index_or steps k d)
 
--- what is remembered, of the cities 1, 2, ..
+-- the entries of the cities 1, 2, ..
 abbrev pub measured_of : Steps → List Measured
 measured_of steps = elim steps.measured [ None ↦ [] | Some measured ↦ measured.items ]
 
--- what is remembered is true of a metric
+-- the entries of a cache are correct for these distances
 abbrev pub AreTrueOf : (ℕ → ℕ → ℕ) → Steps → Type 0
 AreTrueOf distance steps = AreMeasured distance (measured_of steps)

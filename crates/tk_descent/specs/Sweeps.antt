@@ -1,6 +1,6 @@
--- Descents one after another, each with all cities awake, until one makes no move.
---     Pass, Moving, Sweeps, AreSweeps      of the TSP
---     PassUnder, .., AreSweepsUnder      under a rule: `may C o` is true if it allows the offer o on the cycle C
+-- Swept descents: passes one after another, each with all cities awake, until one makes no move.
+--     Pass, Moving, Sweeps, AreSweeps      of the TSP, in which every offer is allowed
+--     PassUnder, .., AreSweepsUnder      under a rule: the offer o is allowed on the cycle C if `may C o` is true
 use Rattle.std.specs.Prelude.{◌≡◌, ℕ, ◌+◌, ◌≤◌, Bool, List, [], length}
 use Rattle.tk_near.specs.Near.{NearLists, near_of}
 use Rattle.tk_tour.specs.Counters.{saturated}
@@ -10,11 +10,11 @@ use Rattle.tk_descent.specs.Offers.{everything}
 use Rattle.tk_descent.specs.declared.offer.Offer.{Offer}
 use Rattle.tk_descent.specs.declared.sweep.SweptReport.{SweptReport}
 
--- a descent from a tour with all cities awake, with its looks, moves and tests
+-- a descent from a tour with all cities awake, with its numbers of looks, moves and tests
 abbrev pub PassUnder : (List ℕ → Offer → Bool) → (ℕ → ℕ → ℕ) → (ℕ → List ℕ) → ℕ → List ℕ → List ℕ → ℕ → ℕ → ℕ → Type 0
 PassUnder may dist near m T C looks moves tests = RunUnder may dist near m T (one_to (length T)) C [] looks moves tests
 
--- passes one after another from the tour T, each with a move, and the counts of passes, looks, moves and tests
+-- passes one after another from the tour T, each with a move, and the numbers of passes, looks, moves and tests
 pub data MovingUnder (may : List ℕ → Offer → Bool) (dist : ℕ → ℕ → ℕ) (near : ℕ → List ℕ) (m : ℕ) (T : List ℕ) :
     List ℕ → ℕ → ℕ → ℕ → ℕ → Type 0 where
   start : MovingUnder may dist near m T T 0 0 0 0
@@ -38,7 +38,7 @@ pub record SweepsUnder (may : List ℕ → Offer → Bool) (dist : ℕ → ℕ �
   pub looks_are : looks ≡ saturated (looked + more)
   pub tests_are : tests ≡ saturated (tested + tried)
 
--- passes with the looks, moves and tests that are reported
+-- passes with the numbers of looks, moves and tests of a report
 abbrev pub AreSweepsUnder : (List ℕ → Offer → Bool) → (ℕ → ℕ → ℕ) → NearLists → ℕ → List ℕ → List ℕ → SweptReport →
     Type 0
 AreSweepsUnder may dist near m T D report = SweepsUnder may dist (near_of near) m T D report.passes

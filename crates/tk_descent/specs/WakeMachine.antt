@@ -1,6 +1,6 @@
 -- The wake machine: local search with a set of cities that wait for a look (don't-look bits: J. L. Bentley, 1992).
---     Improves, HasNoOffer, IsLocalOptimum, Wakes      of the TSP, where each cycle may stand
---     ImprovesUnder, .., WakesUnder      the same where only the cycles that fit may stand
+--     Improves, HasNoOffer, IsLocalOptimum, Wakes      of the TSP, in which every cycle fits
+--     ImprovesUnder, .., WakesUnder      under a rule: a move is made only if the cycle after it fits
 use Rattle.std.specs.Prelude.{◌≡◌, ℕ, ◌<◌, true, ◌⊎◌, ◌↔◌, ◌≢◌, List}
 use Rattle.tk_tour.specs.Tour.{tour_length}
 use Rattle.tk_distance.specs.Holding.{holds}
@@ -8,26 +8,27 @@ use Rattle.tk_descent.specs.Offers.{Makes, ends}
 use Rattle.tk_descent.specs.declared.offer.Offer.{Offer}
 use Rattle.tk_descent.specs.declared.offer.Offer.TheVariants.{Two, Or}
 
--- the move adds a step from x to one of its near cities; an Or-move's x is an end of its segment
+-- the move adds an edge from x to one of its near cities; if it is an Or-opt move, x is an end of its segment
 abbrev pub IsOfferOf : (ℕ → List ℕ) → ℕ → Offer → Type 0
 IsOfferOf near x (Two a b c d) = ((a ≡ x) × (holds (near x) c ≡ true)) ⊎ ((c ≡ x) × (holds (near x) a ≡ true))
     ⊎ ((b ≡ x) × (holds (near x) d ≡ true)) ⊎ ((d ≡ x) × (holds (near x) b ≡ true))
 IsOfferOf near x (Or a s e b y w) = ((s ≡ x) × (holds (near x) y ≡ true)) ⊎ ((e ≡ x) × (holds (near x) w ≡ true))
 
--- an offer of x on C with positive gain, by the lengths of the whole cycles, after whose move the cycle fits
+-- the move of the offer o of x makes the cycle D of C, which is shorter, by the lengths of the whole cycles, and fits
 abbrev pub ImprovesUnder : (List ℕ → Type 0) → (ℕ → ℕ → ℕ) → (ℕ → List ℕ) → ℕ → ℕ → List ℕ → Offer → List ℕ → Type 0
 ImprovesUnder fits dist near m x C o D =
     IsOfferOf near x o × Makes m o C D × (tour_length dist D < tour_length dist C) × fits D
 
--- no offer of x on C has positive gain
+-- no offer of x on C improves it
 abbrev pub HasNoOfferUnder : (List ℕ → Type 0) → (ℕ → ℕ → ℕ) → (ℕ → List ℕ) → ℕ → ℕ → List ℕ → Type 0
 HasNoOfferUnder fits dist near m x C = (o : Offer) (D : List ℕ) → ImprovesUnder fits dist near m x C o D → ⊥
 
--- a cycle on which no offer of any city has positive gain
+-- a cycle that no offer of any city improves
 abbrev pub IsLocalOptimumUnder : (List ℕ → Type 0) → (ℕ → ℕ → ℕ) → (ℕ → List ℕ) → ℕ → List ℕ → Type 0
 IsLocalOptimumUnder fits dist near m C = (x : ℕ) → holds C x ≡ true → HasNoOfferUnder fits dist near m x C
 
--- The wake machine: from a cycle and a set of waking cities, as a list whose order and repetitions say nothing.
+-- The wake machine, from a cycle and a set of waking cities. The set is given as a list, whose order and repetitions do
+-- not matter.
 pub data WakesUnder (fits : List ℕ → Type 0) (dist : ℕ → ℕ → ℕ) (near : ℕ → List ℕ) (m : ℕ) (T W : List ℕ) :
     List ℕ → List ℕ → Type 0 where
   start : WakesUnder fits dist near m T W T W
@@ -40,7 +41,7 @@ pub data WakesUnder (fits : List ℕ → Type 0) (dist : ℕ → ℕ → ℕ) (n
       ((c : ℕ) → (holds U c ≡ true) ↔ ((holds V c ≡ true) ⊎ (holds (ends o) c ≡ true))) →
       WakesUnder fits dist near m T W D U
 
--- The TSP: each cycle may stand.
+-- The TSP: every cycle fits.
 abbrev pub each_cycle : List ℕ → Type 0
 each_cycle C = Unit {0}
 

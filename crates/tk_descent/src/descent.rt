@@ -1,4 +1,4 @@
-//! The descent.
+//! Descents: local search with a queue of waking cities.
 ghost use Rattle.std.specs.Prelude.{◌≡◌, pos, ◌+◌, ◌*◌, ◌≤◌, length};
 ghost use Rattle.tk_tour.specs.Tour.{tour_length};
 ghost use Rattle.tk_descent.specs.Offers.{ends, EndsIn};
@@ -14,24 +14,24 @@ use crate::waking::Waking;
 use tk_near::Near;
 use tk_tour::TourStore;
 
-/// What a descent did.
+/// The lengths of a descent and its counters.
 #[derive(Clone, Copy)]
 pub struct Report {
-    /// The length of the tour that it began with.
+    /// The length of the tour before it.
     pub before: i64,
-    /// The length of the tour that it ended with.
+    /// The length of the tour after it.
     pub after: i64,
-    /// How many moves were made.
+    /// The number of moves.
     pub moves: u64,
-    /// How many looks at a city there were.
+    /// The number of looks at a city.
     pub looks: u64,
-    /// How many offers were decided, each by one gain.
+    /// The number of tests: offers whose gain was tested.
     pub tests: u64,
-    /// How many swaps of two cities the flips took.
+    /// The number of swaps of two cities that the flips took.
     pub swaps: u64,
 }
 
-/// Wakes the ends of a move, in their order.
+/// Wakes the ends of a move, in order.
 fn wake_ends(waking: &mut Waking, offer: &Offer)
     requires { EndsIn waking.old.size offer.now }
     ensures queue { waking.new.queue ≡ woken_each waking.old.queue (ends offer.now) }
@@ -59,7 +59,7 @@ fn wake_ends(waking: &mut Waking, offer: &Offer)
 /// positive gain that the rule allows. Its move is then made, and the ends of the move are woken. The descent ends when
 /// no city is awake.
 ///
-/// `or_segment` is the greatest length of a segment that an Or-move moves, and `before` the length of the tour.
+/// `or_segment` is the maximum number of cities in the segment of an Or-opt move, and `before` the length of the tour.
 pub fn descend_under<S: TourStore, G: Gains, R: Rule>(
     tour: &mut S,
     gains: &mut G,
@@ -106,10 +106,10 @@ pub fn descend_under<S: TourStore, G: Gains, R: Rule>(
     }
 }
 
-/// Looks at the waking cities in turn, first in first out. Where a look finds an offer its move is made and the ends of
-/// the move are woken. It ends when no city is awake.
+/// A descent of the TSP: looks at the waking cities in turn, first in, first out. A look finds the first offer with
+/// positive gain. Its move is then made, and the ends of the move are woken. The descent ends when no city is awake.
 ///
-/// `or_segment` is the greatest length of a segment that an Or-move moves, and `before` the length of the tour.
+/// `or_segment` is the maximum number of cities in the segment of an Or-opt move, and `before` the length of the tour.
 #[inline]
 pub fn descend<S: TourStore, G: Gains>(
     tour: &mut S,

@@ -1,4 +1,4 @@
-//! Gains of moves: the only way by which a descent learns distances.
+//! Gains of moves. A descent learns distances only through them.
 ghost use Rattle.std.specs.Prelude.{◌≡◌, ℕ, ◌+◌, ◌-◌, ◌*◌, ◌^◌, ◌≤◌, All, IfSome, length};
 ghost use Rattle.tk_problem.specs.declared.limits.TheConstants.{DISTANCE_LIMIT};
 ghost use Rattle.tk_distance.specs.Cities.{IsCity};
@@ -14,36 +14,36 @@ use crate::rule::Rule;
 use tk_near::Near;
 use tk_tour::TourStore;
 
-/// Gains of moves by a table of distances, and a count of them.
+/// Computes gains of moves from a table of distances, and counts them.
 pub trait Gains {
-    /// How many cities there are.
+    /// The number of cities.
     ghost size_of: { Self → ℕ };
 
-    /// The table of distances.
+    /// The distances between cities.
     ghost distance: { Self → ℕ → ℕ → ℕ };
 
-    /// How many gains were computed.
+    /// The number of tests: offers whose gain was tested.
     ghost test_count: { Self → ℕ };
 
-    /// How many gains were computed, or 2^64 - 1 where there were more.
+    /// The number of tests: offers whose gain was tested. It saturates at 2^64 - 1.
     fn tests(&self) -> u64
         ensures { result ≡ test_count self.now };
 
-    /// What it gains to replace the steps a-b and c-d by a-c and b-d.
+    /// The gain of replacing the edges a-b and c-d by a-c and b-d.
     fn gain2(&mut self, a: u32, b: u32, c: u32, d: u32) -> i64
         requires { EndsIn (size_of self.old) (Two a b c d) }
         ensures value { result ≡ gain (distance self.old) (Two a b c d) }
         ensures count { test_count self.new ≡ saturated (test_count self.old + 1) }
         ensures same { (distance self.new ≡ distance self.old) × (size_of self.new ≡ size_of self.old) };
 
-    /// What it gains to replace the steps a-x, e-b and y-w by a-b, x-y and e-w.
+    /// The gain of replacing the edges a-x, e-b and y-w by a-b, x-y and e-w.
     fn gain3(&mut self, a: u32, x: u32, e: u32, b: u32, y: u32, w: u32) -> i64
         requires { EndsIn (size_of self.old) (Or a x e b y w) }
         ensures value { result ≡ gain (distance self.old) (Or a x e b y w) }
         ensures count { test_count self.new ≡ saturated (test_count self.old + 1) }
         ensures same { (distance self.new ≡ distance self.old) × (size_of self.new ≡ size_of self.old) };
 
-    /// What an offer gains.
+    /// The gain of an offer.
     fn gain(&mut self, offer: &Offer) -> i64
         requires { EndsIn (size_of self.old) offer.now }
         ensures value { result ≡ gain (distance self.old) offer.now }
@@ -56,8 +56,8 @@ pub trait Gains {
         }
     }
 
-    /// The first of these offers with positive gain that may be made, and the gain. It computes the gains of the offers
-    /// up to that one.
+    /// The first of these offers with positive gain that the rule allows, and its gain. It tests the offers up to that
+    /// one.
     fn find_in<S: TourStore, R: Rule>(
         &mut self,
         tour: &S,
@@ -84,8 +84,8 @@ pub trait Gains {
         None
     }
 
-    /// Looks at a city: its first offer with positive gain that may be made, and the gain. It computes the gains of the
-    /// offers up to that one.
+    /// Looks at a city: its first offer with positive gain that the rule allows, and its gain. It tests the offers up
+    /// to that one.
     fn find_offer<S: TourStore, R: Rule>(
         &mut self,
         tour: &S,

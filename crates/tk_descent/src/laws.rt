@@ -1,4 +1,4 @@
-//! What the definitions of a descent say together. The functions do no work: each is a theorem, stated by its contract.
+//! Laws that follow from the definitions of a descent. The functions do nothing: each contract states a theorem.
 ghost use Rattle.std.specs.Prelude.{◌≡◌, ◌+◌, ◌*◌, ◌≤◌, length};
 ghost use Rattle.tk_near.specs.Near.{near_of};
 ghost use Rattle.tk_tour.specs.Tour.{IsSizedTour};
@@ -15,7 +15,7 @@ use tk_distance::Metric;
 use tk_near::Near;
 
 /// A law: the gain of an offer, by four distances (2-opt) or six (Or-opt), is the length of the whole tour before its
-/// move less the length after it.
+/// move minus the length after it.
 pub fn gain_is_the_difference<M: Metric>(
     metric: &M,
     or_segment: u32,
@@ -27,9 +27,9 @@ pub fn gain_is_the_difference<M: Metric>(
     ensures { gain (M.distance metric.now) offer.now ≡ shortening (M.distance metric.now) before.now after.now }
 {}
 
-/// A law: a descent's run, up to any of its steps, is a run of the machine that leaves the choices open. Each look
-/// takes a city that was awake at first or that a move woke, so there are at most as many as were awake and six for
-/// each move.
+/// A law: a run of a descent, up to any of its steps, is a run of the wake machine, which leaves the choices open. Each
+/// look takes a city that was awake at the start or was woken by a move. So there are at most as many looks as cities
+/// that were awake, plus six for each move.
 pub fn descents_are_wake_runs<M: Metric>(
     metric: &M,
     near: &Near,
@@ -50,7 +50,7 @@ pub fn descents_are_wake_runs<M: Metric>(
     ensures looks { report.now.looks + length left.now ≤ length awake.now + 6 * report.now.moves }
 {}
 
-/// A law: passes one after another, each with all cities awake and the last without a move, end in a local optimum.
+/// A law: passes one after another, each with all cities awake and the last without a move, end with a local optimum.
 pub fn sweeps_end_in_local_optima<M: Metric>(
     metric: &M,
     near: &Near,

@@ -1,4 +1,5 @@
-//! Gains of moves, the queue of waking cities, looks, and the descent by 2-opt and Or-opt over near lists.
+//! Local search by 2-opt and Or-opt moves over near lists: gains of moves, the queue of waking cities, looks and
+//! descents, for the TSP and under a rule.
 #![tactic(auto)]
 
 mod descent;

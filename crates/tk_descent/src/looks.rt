@@ -1,4 +1,4 @@
-//! A look at a city: its offers, in their order, up to the first with a positive gain.
+//! A look at a city: it tries the offers of the city in order, up to the first with positive gain that is allowed.
 pub mod listing;
 pub mod looking;
 pub mod segments;

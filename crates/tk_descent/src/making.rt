@@ -1,4 +1,4 @@
-//! The flips of a move.
+//! Moves of offers, by flips.
 ghost use Rattle.std.specs.Prelude.{◌≡◌, ℕ, ◌+◌, ◌*◌, ◌/◌, ◌≤◌, length};
 ghost use Rattle.tk_tour.specs.Tour.{next_city};
 ghost use Rattle.tk_descent.specs.Offers.{Makes, EndsIn};
@@ -10,7 +10,7 @@ use crate::on_tour::{next, size};
 use tk_tour::TourStore;
 use tk_tour::laws::{move_reversed, move_straight};
 
-/// Moves a segment that runs forward from x to e.
+/// Moves a segment that runs forwards from x to e.
 fn move_forward<S: TourStore>(tour: &mut S, a: u32, x: u32, e: u32, b: u32, y: u32, w: u32)
     requires offer { IsOfferOn 3 (Or a x e b y w) (S.cities tour.old) }
     requires cities { EndsIn (length (S.cities tour.old)) (Or a x e b y w) }

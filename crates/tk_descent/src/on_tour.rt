@@ -1,4 +1,4 @@
-//! The steps of a tour, with the facts that a look needs of them.
+//! Access to a tour, with the facts that a look needs.
 ghost use Rattle.std.specs.Prelude.{◌≡◌, ◌≤◌, All, length};
 ghost use Rattle.tk_problem.specs.declared.limits.TheConstants.{CITY_LIMIT};
 ghost use Rattle.tk_distance.specs.Cities.{IsCity};
@@ -7,7 +7,7 @@ ghost use Rattle.tk_tour.specs.Tour.{next_city, prev_city};
 
 use tk_tour::{Around, TourStore};
 
-/// How many cities the tour has.
+/// The number of cities of the tour.
 #[inline]
 pub(crate) fn size<S: TourStore>(tour: &S) -> u32
     ensures count { result ≡ length (S.cities tour.now) }
@@ -36,7 +36,7 @@ pub(crate) fn prev<S: TourStore>(tour: &S, c: u32) -> u32
     tour.prev(c)
 }
 
-/// The cities around c.
+/// The three cities after c, and the three before it.
 #[inline]
 pub(crate) fn around<S: TourStore>(tour: &S, c: u32) -> Around
     requires city { IsCity (length (S.cities tour.now)) c }

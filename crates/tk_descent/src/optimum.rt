@@ -1,4 +1,4 @@
-//! Whether a tour is a local optimum.
+//! Tests for local optima.
 ghost use Rattle.std.specs.Prelude.{◌≡◌, ◌≤◌, ◌↔◌, IsTrue, length};
 ghost use Rattle.tk_near.specs.Near.{near_of};
 ghost use Rattle.tk_descent.specs.WakeMachine.{IsLocalOptimum, IsLocalOptimumUnder};
@@ -11,7 +11,9 @@ use tk_distance::Metric;
 use tk_near::Near;
 use tk_tour::TourStore;
 
-/// Whether no city has an offer with positive gain that the rule allows.
+/// Whether no city has an offer with positive gain that the rule allows. An offer of a city is a 2-opt move that adds
+/// an edge from the city to one of its near list, or an Or-opt move that does so at an end of its segment. The segment
+/// has at most `or_segment` cities.
 pub fn is_local_optimum_under<S: TourStore, M: Metric, R: Rule>(
     tour: &S,
     metric: &M,
@@ -35,7 +37,9 @@ pub fn is_local_optimum_under<S: TourStore, M: Metric, R: Rule>(
     true
 }
 
-/// Whether no city has an offer with positive gain.
+/// Whether no city has an offer with positive gain. An offer of a city is a 2-opt move that adds an edge from the city
+/// to one of its near list, or an Or-opt move that does so at an end of its segment. The segment has at most
+/// `or_segment` cities.
 #[inline]
 pub fn is_local_optimum<S: TourStore, M: Metric>(
     tour: &S,

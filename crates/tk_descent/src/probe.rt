@@ -1,4 +1,4 @@
-//! Gains by a metric.
+//! Gains from the distances of a metric.
 ghost use Rattle.std.specs.Prelude.{◌≡◌, ◌≤◌, ◌+◌, ◌-◌, ◌^◌, pos};
 ghost use Rattle.tk_descent.specs.Offers.{EndsIn};
 ghost use Rattle.tk_descent.specs.Steps.{AreTrueOf};
@@ -13,7 +13,7 @@ use tk_distance::Metric;
 use tk_near::Near;
 use tk_tour::TourStore;
 
-/// The gains by a metric's distances. A look does not measure a step of the tour again that is remembered.
+/// Computes gains from the distances of a metric. Its looks take the lengths of tour edges from a cache if they can.
 #[derive(Drop)]
 pub struct Probe<'a, M: Metric> {
     metric: &'a M,
@@ -26,7 +26,7 @@ pub struct Probe<'a, M: Metric> {
 impl<'a, M: Metric> Probe<'a, M> {
     ghost use Rattle.tk_descent.specs.ProbeSteps.{steps_of};
 
-    /// The gains by the metric's distances, with none computed so far. It remembers no steps.
+    /// Gains from the distances of the metric, with no tests so far. It has no cache of edge lengths.
     pub fn new(metric: &'a M) -> Probe<'a, M>
         ensures size { ⟦<Probe<'a, M> as Gains>⟧.size_of result ≡ M.size_of metric.now }
         ensures table { ⟦<Probe<'a, M> as Gains>⟧.distance result ≡ M.distance metric.now }
@@ -35,7 +35,7 @@ impl<'a, M: Metric> Probe<'a, M> {
         Probe::with_steps(metric, Steps::none())
     }
 
-    /// The gains by the metric's distances, with none computed so far. It goes on remembering steps.
+    /// Gains from the distances of the metric, with no tests so far. It reads and fills this cache of edge lengths.
     pub fn with_steps(metric: &'a M, steps: Steps) -> Probe<'a, M>
         requires { AreTrueOf (M.distance metric.now) steps }
         ensures size { ⟦<Probe<'a, M> as Gains>⟧.size_of result ≡ M.size_of metric.now }
@@ -50,7 +50,7 @@ impl<'a, M: Metric> Probe<'a, M> {
         }
     }
 
-    /// The steps that it remembers.
+    /// The cache of edge lengths.
     pub fn into_steps(self) -> Steps
         ensures steps { result ≡ steps_of self.entry }
         ensures true_steps { AreTrueOf (⟦<Probe<'a, M> as Gains>⟧.distance self.entry) result }

@@ -1,4 +1,4 @@
-//! The steps of a tour, as they were last measured.
+//! A cache of edge lengths.
 ghost use Rattle.std.specs.Prelude.{◌≡◌, ◌<◌, ◌-◌, [], ℕ, IfOk, pos};
 ghost use Rattle.tk_distance.specs.Cities.{IsCity};
 ghost use Rattle.tk_descent.specs.Steps.{AreMeasured, AreTrueOf, IsMeasured, knows, measured_of};
@@ -6,11 +6,11 @@ ghost use Rattle.tk_descent.specs.Steps.{AreMeasured, AreTrueOf, IsMeasured, kno
 use std::alloc::{AllocError, Global};
 use tk_distance::Metric;
 
-/// The steps of so many cities at most are remembered. With more, what is remembered does not fit into the processor's
-/// cache beside the places and near lists, and reading it takes longer than the square roots that it saves.
+/// The maximum number of cities that have a cache. With more cities, it does not fit into the processor's cache
+/// together with the coordinates and near lists, and reading it takes longer than the square roots that it saves.
 const REMEMBERED: u32 = 10_000;
 
-/// Two neighbours that a city had on the tour, and how far they are. 0 stands for no city.
+/// The entry of a city: two cities that have been its tour neighbours, and the distances to them. 0 means no city.
 #[derive(Clone, Copy, Drop)]
 pub(crate) struct Measured {
     pub one: u32,
@@ -29,18 +29,18 @@ impl Measured {
     }
 }
 
-/// What is remembered of the steps of a tour: of each city two neighbours that it had, and how far they are. It is true
-/// of one metric, whatever becomes of the tour.
+/// A cache of edge lengths: for each city, two cities that have been its tour neighbours, and the distances to them.
+/// Entries stay correct for their metric when the tour changes.
 #[derive(Drop)]
 pub struct Steps {
     pub(crate) measured: Option<Vec<Measured>>,
 }
 
 impl Steps {
-    /// Room for what will be remembered of n cities; of more than 10,000 nothing is.
+    /// A cache for n cities, without entries. For more than 10,000 cities, nothing is cached.
     ///
     /// # Errors
-    /// `AllocError` where there is no memory for it.
+    /// `AllocError` if memory runs out.
     pub fn new(alloc: Global, n: u32) -> Result<Steps, AllocError>
         ensures { IfOk result (λ s. (distance : ℕ → ℕ → ℕ) → AreTrueOf distance s) }
     {
@@ -58,14 +58,14 @@ impl Steps {
         })
     }
 
-    /// No memory.
+    /// A cache that never has entries.
     pub fn none() -> Steps
         ensures { measured_of result ≡ [] }
     {
         Steps { measured: None }
     }
 
-    /// Takes out what is remembered. No memory is left.
+    /// Takes the cache, and leaves one that never has entries.
     pub fn take(&mut self) -> Steps
         ensures taken { result ≡ self.old }
         ensures left { measured_of self.new ≡ [] }
@@ -76,7 +76,7 @@ impl Steps {
     }
 }
 
-/// How far it is from c to a city, which is not measured again where that is known.
+/// The distance from c to a city. It is measured only if the entry of c does not have it.
 #[inline(always)]
 fn distance_to<M: Metric>(metric: &M, known: Measured, c: u32, city: u32) -> u32
     requires from { IsCity (M.size_of metric.now) c }
@@ -93,7 +93,7 @@ fn distance_to<M: Metric>(metric: &M, known: Measured, c: u32, city: u32) -> u32
     }
 }
 
-/// How far it is from c to a city, which is not measured again where that is remembered.
+/// The distance from c to a city. It is measured only if it is not cached.
 #[inline(always)]
 pub(crate) fn step<M: Metric>(metric: &M, steps: &[Measured], c: u32, city: u32) -> i64
     requires from { IsCity (M.size_of metric.now) c }
@@ -108,7 +108,7 @@ pub(crate) fn step<M: Metric>(metric: &M, steps: &[Measured], c: u32, city: u32)
     i64::from(distance_to(metric, steps[at], c, city))
 }
 
-/// How far it is from c to the cities after and before it, which are remembered from now on where there is room.
+/// The distances from c to the cities after and before it. They are cached if the cache has an entry for c.
 #[inline(always)]
 pub(crate) fn steps_beside<M: Metric>(
     metric: &M,

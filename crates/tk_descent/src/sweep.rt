@@ -1,4 +1,4 @@
-//! Descents until a tour is a local optimum.
+//! Swept descents, which end with a local optimum.
 ghost use Rattle.std.specs.Prelude.{◌≡◌, pos, ◌*◌, ◌≤◌, [], length};
 ghost use Rattle.tk_tour.specs.Tour.{tour_length};
 ghost use Rattle.tk_descent.specs.Descents.{IsSweeping, IsSweepingUnder, AreOfSize};
@@ -11,12 +11,12 @@ use crate::waking::Waking;
 use tk_near::Near;
 use tk_tour::TourStore;
 
-/// What several passes did together.
+/// The counters of a swept descent.
 #[derive(Clone, Copy)]
 pub struct SweptReport {
-    /// All passes as one descent. The looks and the tests stand still at 2^64 - 1.
+    /// All passes, counted as one descent. The numbers of looks and tests saturate at 2^64 - 1.
     pub descent: Report,
-    /// How many descents there were.
+    /// The number of passes.
     pub passes: u64,
 }
 
@@ -28,8 +28,10 @@ fn put_to_sleep(waking: &mut Waking)
     while let Some(_city) = waking.take() {}
 }
 
-/// Descends under a rule with all cities awake, again and again, until a pass makes no move: then no city has an offer
-/// with positive gain that the rule allows. Which cities are awake before does not matter.
+/// A swept descent under a rule: passes, each of which wakes all cities and descends, until one makes no move. Then no
+/// city has an offer with positive gain that the rule allows. It does not matter which cities are awake at the start.
+///
+/// `or_segment` is the maximum number of cities in the segment of an Or-opt move, and `before` the length of the tour.
 pub fn descend_swept_under<S: TourStore, G: Gains, R: Rule>(
     tour: &mut S,
     gains: &mut G,
@@ -80,7 +82,10 @@ pub fn descend_swept_under<S: TourStore, G: Gains, R: Rule>(
     }
 }
 
-/// Descends with all cities awake, again and again, until a pass makes no move. Whatever was awake before.
+/// A swept descent of the TSP: passes, each of which wakes all cities and descends, until one makes no move. Then no
+/// city has an offer with positive gain. It does not matter which cities are awake at the start.
+///
+/// `or_segment` is the maximum number of cities in the segment of an Or-opt move, and `before` the length of the tour.
 #[inline]
 pub fn descend_swept<S: TourStore, G: Gains>(
     tour: &mut S,

@@ -1,4 +1,4 @@
-//! The cities that wait for a look.
+//! The queue of waking cities.
 ghost use Rattle.std.specs.Prelude.{◌≡◌, ◌+◌, ◌≤◌, ◌<◌, [], ◌∷◌, IfOk, IfSome, MatchOption, All, vec_len, length};
 ghost use Rattle.tk_descent.specs.Awake.{woken, woken_each, one_to};
 ghost use Rattle.tk_distance.specs.Holding.{IsDistinct};
@@ -8,7 +8,8 @@ use circular_buffer::HeapCircularBuffer;
 use std::alloc::{AllocError, Global};
 use std::marker::Model;
 
-/// A queue of distinct cities of 1..n, first in, first out.
+/// The queue of the cities that are awake and wait for a look: distinct cities from 1 to n, first in, first out. It
+/// plays the part of don't-look bits.
 #[derive(Drop)]
 pub struct Waking {
     queue: HeapCircularBuffer<u32>,
@@ -31,7 +32,7 @@ impl Waking {
     /// A queue for the cities 1 to n, all asleep.
     ///
     /// # Errors
-    /// `AllocError` if there is no memory for n + 1 flags and as many places of the queue.
+    /// `AllocError` if memory runs out.
     pub fn new(alloc: Global, n: u32) -> Result<Waking, AllocError>
         ensures { IfOk result (λ w. (w.queue ≡ []) × (w.size ≡ n)) }
     {
@@ -41,7 +42,7 @@ impl Waking {
         Ok(Waking { queue, awake })
     }
 
-    /// How many cities are awake.
+    /// The number of cities that are awake.
     pub fn len(&self) -> usize
         ensures value { result ≡ length self.now.queue }
         ensures limit { result ≤ self.now.size }
@@ -50,7 +51,7 @@ impl Waking {
         self.queue.len()
     }
 
-    /// Wakes a city, where it sleeps.
+    /// Wakes a city: appends it to the queue if it is asleep.
     pub fn wake(&mut self, city: u32)
         requires { IsCity self.old.size city }
         ensures queue { self.new.queue ≡ woken self.old.queue city }
@@ -62,7 +63,7 @@ impl Waking {
         }
     }
 
-    /// Wakes each city of a list in turn, where it sleeps.
+    /// Wakes each city of a list that is asleep, in the order of the list.
     pub fn wake_each(&mut self, cities: &[u32])
         requires { All (IsCity self.old.size) cities.now }
         ensures queue { self.new.queue ≡ woken_each self.old.queue cities.now }
@@ -73,7 +74,7 @@ impl Waking {
         }
     }
 
-    /// Wakes all cities that sleep, the lowest first.
+    /// Wakes all cities that are asleep, in ascending order.
     pub fn wake_all(&mut self)
         ensures queue { self.new.queue ≡ woken_each self.old.queue (one_to self.old.size) }
         ensures size { self.new.size ≡ self.old.size }
@@ -84,14 +85,14 @@ impl Waking {
         }
     }
 
-    /// The greatest city.
+    /// The number of cities.
     fn size(&self) -> u32
         ensures { result ≡ self.now.size }
     {
         (self.awake.len() - 1) as u32
     }
 
-    /// Takes the first city, which then sleeps.
+    /// Removes the first city, which then is asleep. `None` if no city is awake.
     pub fn take(&mut self) -> Option<u32>
         ensures taken { MatchOption result ((self.old.queue ≡ [])
             × (self.new.queue ≡ [])) (λ x. self.old.queue ≡ x ∷ self.new.queue) }

@@ -10,7 +10,7 @@ use Rattle.tk_descent.specs.declared.offer.Offer.TheVariants.{Two, Or}
 use Rattle.tk_descent.proofs.MovesOnTours.Steps.{HasSameCities, cities-cycle, distinct_same}
 use Rattle.tk_descent.proofs.MovesOnTours.Views.{Made, Parts, made_of}
 
--- a segment, or its reverse, stands elsewhere
+-- a segment, or its reverse, at another position
 moved_cities : {m : ℕ} {C : List ℕ} {a x e b c d : ℕ} (p : Parts m C a x e b c d) (D T : List ℕ) →
     HasSameCities p.segment T → SameCycle D (p.ahead ++ T ++ p.rest) → HasSameCities C D
 moved_cities {C = C} p D T same k =

@@ -1,4 +1,4 @@
--- What a move does to the length.
+-- The difference that a move makes to the length.
 use Rattle.std.proofs.Common.{◌≡◌, ℕ, ◌+◌, List, ◌++◌, reverse, arith, inl, inr, pos, ◌-ℤ◌}
 use Rattle.std.proofs.lemmas.Int.{ints}
 use Rattle.tk_tour.specs.Tour.{tour_length}

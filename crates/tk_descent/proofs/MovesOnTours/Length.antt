@@ -13,7 +13,7 @@ walk-append : (d : ℕ → ℕ → ℕ) (a : ℕ) (xs ys : List ℕ) → walk d 
 walk-append d a [] ys = omega arith
 walk-append d a (b ∷ xs) ys = omega (arith, walk-append d b xs ys)
 
--- the way along a list
+-- the length of the way along a list
 abbrev pub inner : (ℕ → ℕ → ℕ) → List ℕ → ℕ
 inner d [] = 0
 inner d (a ∷ xs) = walk d a xs
@@ -91,7 +91,7 @@ length-rotation : (d : ℕ → ℕ → ℕ) (X Y : List ℕ) → IsRotation X Y 
 length-rotation d X Y h = ap (tour_length d) h.before ∙ length-turned d h.front h.back
     ∙ sym (ap (tour_length d) h.after)
 
--- one cycle has one length
+-- lists of the same cycle have the same length
 pub length-cycle : (d : ℕ → ℕ → ℕ) → ((a b : ℕ) → d a b ≡ d b a) → (X Y : List ℕ) → SameCycle X Y →
     tour_length d X ≡ tour_length d Y
 length-cycle d s X Y (inl h) = length-rotation d X Y h

@@ -14,7 +14,7 @@ abbrev pub Spans : List ℕ → ℕ → ℕ → Type 0
 Spans [] a z = ⊥
 Spans (b ∷ xs) a z = (b ≡ a) × (last_from b xs ≡ z)
 
--- each of 1 to the length once
+-- a list that contains each of 1 to its length once
 pub record IsRound (C : List ℕ) : Type 0 where
   pub members : (c : ℕ) → (holds C c ≡ true) ↔ IsCity (length C) c
   pub distinct : IsDistinct C

@@ -1,4 +1,4 @@
--- Tours by their members, and their steps.
+-- The members of a tour, and its edges.
 use Rattle.std.proofs.Common.{◌≡◌, ℕ, ◌<◌, ◌≤◌, ◌⊎◌, true, List, length, arith, inl, inr}
 use Rattle.tk_tour.specs.Tour.{IsTour, IsSizedTour}
 use Rattle.tk_tour.proofs.Tours.{HoldsOnce-tour, occurrences-outside, inside_or_not}

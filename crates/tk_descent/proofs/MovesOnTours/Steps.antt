@@ -61,7 +61,7 @@ holds-reverse [] c = refl
 holds-reverse (b ∷ xs) c = ap (λ z. holds z c) (reverse-cons b xs) ∙ holds-push (reverse xs) b c
     ∙ or_comm (holds (reverse xs) c) (eqb b c) ∙ ap (λ z. eqb b c || z) (holds-reverse xs c)
 
--- a list is distinct where each city stands once in it
+-- a list is distinct if it contains each city at most once
 
 pub held : (xs : List ℕ) (c : ℕ) → 1 ≤ occurrences c xs → holds xs c ≡ true
 held [] c h = absurd (omega (arith, h, occurrences-nil c))
@@ -106,7 +106,7 @@ distinct_of (b ∷ xs) h = (
   distinct_of xs (λ c. fewer_in b c xs (h c) (cases_eq c b)),
 )
 
--- D has as many cities as C, and each as often
+-- D has as many cities as C, and contains each as often
 abbrev pub HasSameCities : List ℕ → List ℕ → Type 0
 HasSameCities C D = (length D ≡ length C) × ((c : ℕ) → occurrences c D ≡ occurrences c C)
 
@@ -160,7 +160,7 @@ rotation_of_one C b h = one_part h.front h.back h.before h.after
     one_part [] (v ∷ vs) h k = h ∙ sym (k ∙ append-nil (v ∷ vs))
     one_part (u ∷ us) (v ∷ vs) h k = absurd (omega (arith, ap length k, length-append (v ∷ vs) (u ∷ us)))
 
--- where a rotation begins with b and ends with a, b comes after a, and a before b
+-- if a rotation begins with b and ends with a, then b comes after a, and a before b
 beside_of : (C D : List ℕ) (b a : ℕ) → IsRotation C D → Spans D b a → IsDistinct C →
     (next_city C a ≡ b) × (prev_city C b ≡ a)
 beside_of C [] b a h s d = absurd s
@@ -208,7 +208,7 @@ turned_back C X h = subst (λ z. IsRotation (reverse C) z) (reverse-reverse X) (
 abbrev pub Steps : List ℕ → ℕ → ℕ → ℕ → ℕ → Type 0
 Steps C a b c d = ((b ≡ next_city C a) × (d ≡ next_city C c)) ⊎ ((b ≡ prev_city C a) × (d ≡ prev_city C c))
 
--- two paths that make up a cycle are joined by steps of one direction
+-- two paths that make up a cycle are joined by edges of one direction
 pub steps_of : (C A B : List ℕ) (a b c d : ℕ) → SameCycle C (A ++ B) → IsDistinct C → Spans A d a → Spans B b c →
     Steps C a b c d
 steps_of C A B a b c d (inl h) e p q = inl (next_both C A B a b c d h e p q)
@@ -221,7 +221,7 @@ pub holds-first : (X : List ℕ) (b a : ℕ) → Spans X b a → holds X b ≡ t
 holds-first [] b a h = absurd h
 holds-first (c ∷ xs) b a h = or_left (eqb c b) (holds xs b) (eq-eqb c b h.0)
 
--- members of two apart lists differ
+-- members of two disjoint lists differ
 pub apart-ne : (X Y : List ℕ) (a b : ℕ) → Apart X Y → holds X a ≡ true → holds Y b ≡ true → a ≢ b
 apart-ne X Y a b h p q e = both_ways (holds Y a) (h a p) (subst (λ z. holds Y z ≡ true) (sym e) q)
 

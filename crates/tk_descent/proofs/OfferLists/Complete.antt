@@ -1,4 +1,4 @@
--- Each move of a city has an offer of the same steps in the city's list.
+-- For each move of a city, the list of the city contains an offer that makes the same cycle.
 use Rattle.std.proofs.Common.{◌≡◌, ℕ, zero, suc, ◌+◌, ◌<◌, ◌≤◌, ◌≢◌, ◌⊎◌, Bool, true, false, cond, ◌||◌, ◌&&◌, eqb, leb}
 use Rattle.std.proofs.Common.{List, [], ◌∷◌, ◌++◌, length, reverse, refl, sym, ◌∙◌, ap, arith, inl, inr, subst, take}
 use Rattle.std.proofs.Common.{flat_map, append_assoc, length-append, get_or}
@@ -49,7 +49,7 @@ listed_cond : (b : Bool) (o : Offer) → b ≡ false → IsListed (cond b [] (o 
 listed_cond true o h = cc
 listed_cond false o h = inl refl
 
--- the five segments, where the cycle and m are long enough for them
+-- the five segments, if the cycle and m are long enough for them
 
 count_of : (a b c : Bool) → c ≡ true → 1 ≤ cond a 5 (cond b 3 (cond c 1 0))
 count_of false false false h = cc
@@ -100,7 +100,7 @@ steps_back C A B a b c d h dis hA hB =
     (cycle-same C (reverse (A ++ B)) (reverse B ++ reverse A) (reverse-append A B) (cycle-reverse C (A ++ B) h)))
     dis (Spans-reverse A d a hA) (Spans-reverse B b c hB)
 
--- a 2-opt move seen from its other step, and the other way round
+-- a 2-opt move, seen from its other edge, and in the other direction
 two_swapped : (m : ℕ) (C D : List ℕ) (a b c d : ℕ) → Made m (Two a b c d) C D → Made m (Two c d a b) C D
 two_swapped m C D a b c d (h, k) = (
   record {
@@ -154,7 +154,7 @@ two_complete C D m near x a b c d (inr (inr (inr (e, h)))) made s t = (
   two_swapped m C D b a d c (two_mirrored m C D a b c d made),
 )
 
--- the Or-offers, on a rotation K of the cycle or of its reverse
+-- the Or-opt offers, on a rotation K of the cycle or of its reverse
 
 uncover : (x u v z : ℕ) → x ≢ z → u ≢ z → v ≢ z → ((eqb z x || eqb z u) || eqb z v) ≡ false
 uncover x u v z h j k =
@@ -181,7 +181,7 @@ positive : (X : List ℕ) (p q : ℕ) → Spans X p q → 1 ≤ length X
 positive [] p q s = absurd s
 positive (a ∷ X) p q s = omega arith
 
--- what a segment from x to e with b after it is, by its length
+-- a segment from x to e with b after it, by its length
 abbrev IsOne : (ℕ → ℕ) → List ℕ → ℕ → ℕ → ℕ → Type 0
 IsOne nx K x e b = (e ≡ x) × (nx x ≡ b) × (3 ≤ length K)
 
@@ -191,7 +191,7 @@ IsTwo nx K m x e b = (nx x ≡ e) × (nx (nx x) ≡ b) × (4 ≤ length K) × (2
 abbrev IsThree : (ℕ → ℕ) → List ℕ → ℕ → List ℕ → ℕ → ℕ → ℕ → Type 0
 IsThree nx K m S x e b = (holds S (nx x) ≡ true) × (nx (nx x) ≡ e) × (nx (nx (nx x)) ≡ b) × (5 ≤ length K) × (3 ≤ m)
 
--- y and w are neighbours on the cycle, in what a segment leaves of it
+-- y and w are neighbours on the cycle, in the rest that a segment leaves
 abbrev AreBeside : (C rest : List ℕ) (y w : ℕ) → Type 0
 AreBeside C rest y w =
     (holds rest y ≡ true) × (holds rest w ≡ true) × ((w ≡ next_city C y) ⊎ (w ≡ prev_city C y))
@@ -229,7 +229,7 @@ module _ {K : List ℕ} {nx pv : ℕ → ℕ} (ways : Ways K nx pv) {m : ℕ} (s
   in_d : holds others d ≡ true
   in_d = holds-append p.ahead p.rest d ∙ or_right (holds p.ahead d) (holds p.rest d) (holds-first p.rest d a p.is_rest)
 
-  -- the two neighbours where what is left is cut
+  -- the two neighbours at which the rest is cut
   along : (holds others c ≡ true) × (holds others d ≡ true) × (d ≡ nx c)
   along = (in_c, in_d, sym (ways.next (p.rest ++ (S ++ p.ahead)) d c round round_ends))
 

@@ -1,4 +1,4 @@
--- How long a list of offers is, and what its first offer with positive gain says.
+-- The length of a list of offers, and facts about its first offer with positive gain.
 use Rattle.std.proofs.Common.{◌≡◌, ℕ, suc, ◌+◌, ◌*◌, ◌<◌, ◌≤◌, Bool, true, false, cond, ◌||◌, ◌&&◌, leb, List, [], ◌∷◌}
 use Rattle.std.proofs.Common.{◌++◌, length, take, Option, Some, refl, arith, subst, pos, ◌-ℤ◌, flat_map, length-append}
 use Rattle.std.proofs.Common.{length-take}
@@ -31,7 +31,7 @@ and_first : (a b : Bool) → (a && b) ≡ true → a ≡ true
 and_first true b h = refl
 and_first false b h = cc
 
--- what is found improves, and has what each offer of the list has
+-- the offer that is found improves, and has each property that all offers of the list have
 pub found_improves : (d : ℕ → ℕ → ℕ) (may : Offer → Bool) (os : List Offer) (p : Offer) →
     first_allowed d may os ≡ Some p → added d p < removed d p
 found_improves d may [] p e = cc
@@ -39,7 +39,7 @@ found_improves d may (o ∷ os) p e =
     step_improves (is_taken d may o) o p (first_allowed d may os) (λ z. added d z < removed d z)
     (λ h. ltb-true (added d o) (removed d o) (and_second (may o) (improves d o) h)) (found_improves d may os p) e
 
--- and may be made
+-- and is allowed
 pub found_allowed : (d : ℕ → ℕ → ℕ) (may : Offer → Bool) (os : List Offer) (p : Offer) →
     first_allowed d may os ≡ Some p → may p ≡ true
 found_allowed d may [] p e = cc

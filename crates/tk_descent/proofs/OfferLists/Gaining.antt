@@ -1,4 +1,4 @@
--- An Or-offer that was found by what is left of a margin.
+-- An Or-opt offer with positive gain, by its margin.
 use Rattle.std.proofs.Common.{◌≡◌, ℕ, ◌+◌, ◌≤◌, Bool, true, false, cond, ltb, [], ◌∷◌, Some, sym, ◌∙◌, ap, arith}
 use Rattle.std.proofs.Common.{subst, ◌*◌, ℤ, pos, ◌-ℤ◌, w64, to_z, of_z}
 use Rattle.std.specs.Prelude.{◌<ℤ◌}

@@ -1,4 +1,4 @@
--- What it says that a list of offers is complete.
+-- Complete lists of offers.
 use Rattle.std.proofs.Common.{◌≡◌, ℕ, ◌⊎◌, List, [], ◌∷◌}
 use Rattle.tk_descent.specs.Offers.{offers, removed, added, Makes}
 use Rattle.tk_descent.specs.WakeMachine.{IsOfferOf}
@@ -8,12 +8,12 @@ abbrev pub IsListed : List Offer → Offer → Type 0
 IsListed [] o = ⊥
 IsListed (p ∷ os) o = (p ≡ o) ⊎ IsListed os o
 
--- under each symmetric table the two remove as much and add as much: their steps are the same but for order and
--- direction
+-- with any symmetric distances, the two offers remove the same length and add the same length: their edges are the same
+-- except for order and direction
 abbrev pub HasSameSteps : Offer → Offer → Type 0
 HasSameSteps p o = (d : ℕ → ℕ → ℕ) → ((a b : ℕ) → d a b ≡ d b a) → (removed d p ≡ removed d o) × (added d p ≡ added d o)
 
--- the list of x has an offer with the steps of each move of x
+-- for each move of x, the list of x contains an offer with the same edges, whose move makes the same cycle
 abbrev pub IsComplete : List ℕ → ℕ → (ℕ → List ℕ) → ℕ → Type 0
 IsComplete C m near x =
     (o : Offer) (D : List ℕ) → IsOfferOf near x o → Makes m o C D → (p : Offer) × IsListed (offers C m (near x) x) p

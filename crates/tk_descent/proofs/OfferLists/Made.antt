@@ -1,4 +1,4 @@
--- Offers on a cycle, by the direction in which they stand.
+-- Offers on a cycle, by their direction.
 use Rattle.std.proofs.Common.{◌≡◌, ℕ, ◌≤◌, ◌≢◌, true, List, [], ◌∷◌, ◌++◌, length, reverse, refl, sym, ◌∙◌, ap, subst}
 use Rattle.std.proofs.Common.{append_assoc, inl, inr, arith, length-append}
 use Rattle.std.proofs.lemmas.List.{reverse-append, length-reverse}
@@ -17,7 +17,7 @@ use Rattle.tk_descent.proofs.MovesOnTours.Steps.{turned, rotation-trans, distinc
 use Rattle.tk_descent.proofs.MovesOnTours.Steps.{cycle-same, cycle-reverse, steps_of, distinct-cycle, distinct-parts}
 use Rattle.tk_descent.proofs.MovesOnTours.Steps.{apart-ne, holds-last, Steps, one_city}
 
--- on three cities or more the first of a round is not followed by its last
+-- on three cities or more, the first city of a tour is not followed by its last
 pub not_next : (C D : List ℕ) (p q : ℕ) → IsRotation C D → IsDistinct C → Spans D p q → 3 ≤ length D →
     next_city C p ≡ q → ⊥
 not_next C [] p q h d s big e = absurd s
@@ -80,7 +80,7 @@ module _ {m : ℕ} {C : List ℕ} {a x e b c d : ℕ} (dis : IsDistinct C) (p : 
       not_next C round d c (turn_round n) dis round_ends
       (omega (arith, big, length-append (p.segment ++ p.ahead) p.rest, length-append p.rest (p.segment ++ p.ahead))) k
 
-  -- where the segment does not run forward, it does from its other end
+  -- a segment that does not run forwards does so from its other end
   back_of : SameCycle C whole → (next_city C a ≡ x → ⊥) → next_city C b ≡ e
   back_of (inl h) n = absurd (n (next_of C whole x a h whole_ends dis))
   back_of (inr h) n =
@@ -111,7 +111,7 @@ module _ {C : List ℕ} (tour : IsSizedTour C) {a x e b y w : ℕ} (n : next_cit
   dis : IsDistinct C
   dis = (round_of C tour).distinct
 
-  -- where w comes after y, the segment goes as it runs, and else turned round
+  -- if w comes after y, the segment keeps its direction, and otherwise it is reversed
   then_parts : next_city C y ≡ w → Parts m C a x e b y w
   then_parts f =
       elim ((made_on m (Or a x e b y w) C o).1) [ inl (p, k) ↦ p | inr (p, k) ↦ absurd (not_next_of_d dis p n f) ]
@@ -144,7 +144,7 @@ module _ {C : List ℕ} (tour : IsSizedTour C) {a x e b y w : ℕ} (n : next_cit
         makes_of m (Or a x e b y w) C D
         (inl (p, subst (λ z. SameCycle D (p.ahead ++ z ++ p.rest)) alone (g (cut dis p))))
 
--- an Or-offer seen from the other end of its segment
+-- an Or-opt offer, seen from the other end of its segment
 
 reverse_three : (A B C : List ℕ) → reverse (A ++ B ++ C) ≡ reverse C ++ reverse B ++ reverse A
 reverse_three A B C = reverse-append (A ++ B) C ∙ ap (λ z. reverse C ++ z) (reverse-append A B)

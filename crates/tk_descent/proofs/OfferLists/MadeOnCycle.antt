@@ -1,4 +1,4 @@
--- Moves made on a cycle: two of its steps exchanged, and a segment put between two neighbours.
+-- Moves made on a cycle: 2-opt moves, and segments inserted between two neighbours.
 use Rattle.std.proofs.Common.{◌≡◌, ℕ, ◌≤◌, ◌≢◌, true, false, List, [], ◌∷◌, ◌++◌, length, reverse, refl, sym, ◌∙◌, ap}
 use Rattle.std.proofs.Common.{inl, inr, subst, append_assoc}
 use Rattle.tk_tour.specs.Tour.{IsRotation, SameCycle}
@@ -15,7 +15,7 @@ use Rattle.tk_descent.proofs.MovesOnTours.Steps.{apart-ne, holds-first, holds-la
 use Rattle.tk_descent.proofs.OfferLists.Ways.{same_cycle, member_split, spans_push, holds-rotation, rotated_to}
 use Rattle.tk_descent.proofs.OfferLists.Ways.{spans_two, last_same, Ways}
 
--- a segment from x, of at most m cities, stands on the cycle, and covers its own cities
+-- a segment from x, of at most m cities, is on the cycle and covers its own cities
 pub record Stands (C : List ℕ) (m x : ℕ) (s : Segment) : Type 0 where
   pub cities : List ℕ
   pub rest : List ℕ

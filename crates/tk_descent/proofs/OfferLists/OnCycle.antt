@@ -1,4 +1,4 @@
--- Each offer of the list is one on the cycle.
+-- The move of each offer of the list can be made on the cycle.
 use Rattle.std.proofs.Common.{◌≡◌, ℕ, ◌<◌, ◌≤◌, ◌≢◌, ◌⊎◌, Bool, true, false, cond, ◌||◌, eqb, List, [], ◌∷◌, ◌++◌}
 use Rattle.std.proofs.Common.{length, reverse, Some, refl, sym, ◌∙◌, ap, arith, inl, inr, subst, ◌&&◌, leb}
 use Rattle.std.proofs.Common.{take, flat_map, slice_index, get_or, zero, suc}
@@ -50,7 +50,7 @@ module _ {C : List ℕ} {nx pv : ℕ → ℕ} (ways : Ways C nx pv) where
       subst (λ z. holds C z ≡ true) (sym (ways.next ((s.1.0 ++ s.0) ++ y ∷ []) p.0 y r p.1))
       (holds-rotation C ((s.1.0 ++ s.0) ++ y ∷ []) p.0 r ∙ holds-first ((s.1.0 ++ s.0) ++ y ∷ []) p.0 y p.1)
 
-  -- an Or-offer of a segment, with the cities beside it
+  -- an Or-opt offer of a segment, with its neighbours
   or_dir : {D : List ℕ} → ((X : List ℕ) → IsRotation C X → SameCycle D X) → {m x : ℕ} {s : Segment} →
       Stands C m x s → (y w : ℕ) → holds C y ≡ true → holds C w ≡ true → (w ≡ nx y) ⊎ (w ≡ pv y) →
       covers x s y ≡ false → covers x s w ≡ false → IsMadeOn m (Or s.before x s.last s.after y w) D
@@ -187,7 +187,7 @@ module _ (C : List ℕ) (m x y : ℕ) (tour : IsRound C) (low : 1 ≤ m) (hx : h
     (in_range x hx, in_range (pv x) (pm x hx), in_range y hy, in_range (pv y) (pm y hy)),
   )
 
-  -- the Or-offers of a segment between cities
+  -- the Or-opt offers of a segment between cities
   module _ (s : Segment) (in' : IsSegmentIn (length C) s) where
     both : ((w : ℕ) → holds C w ≡ true → (w ≡ nx y) ⊎ (w ≡ pv y) → covers x s y ≡ false → covers x s w ≡ false →
         IsMadeOn m (Or s.before x s.last s.after y w) C) → Each (OnCycle C m) (or_offers x y (nx y) (pv y) s)
@@ -245,7 +245,7 @@ module _ (C : List ℕ) (m x y : ℕ) (tour : IsRound C) (low : 1 ≤ m) (hx : h
   s2 : 2 ≤ m → 4 ≤ length C → Each (OnCycle C m) (f e2)
   s2 two big = ahead e2 (p1, n1, n2) (two_at (ways_on C dis) m x (starts C x hx) two big)
 
-  -- the cycle the other way round, from x
+  -- the reversed cycle, from x
   turned_starts : (E : List ℕ) × IsRotation (reverse C) (x ∷ E)
   turned_starts = starts (reverse C) x (holds-reverse C x ∙ hx)
 

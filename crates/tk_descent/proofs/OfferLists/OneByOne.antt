@@ -21,7 +21,7 @@ pub tested_improves : (d : ℕ → ℕ → ℕ) (o : Offer) (v : ℤ) (b : Bool)
 tested_improves d o v b fits worth test = sym (positive (removed d o) (added d o))
     ∙ ap (λ z. lt_z (pos 0) z) (sym (to_z-of_z w64 v fits ∙ worth)) ∙ test
 
--- an offer that does not gain, or may not be made
+-- an offer without positive gain, or one that is not allowed
 and-false : (b : Bool) → (b && false) ≡ false
 and-false true = refl
 and-false false = refl
@@ -62,7 +62,7 @@ module _ {may : Offer → Bool} (d e : ℕ → ℕ → ℕ) (os : List Offer) (i
   pub gains_by : (b : Bool) → lt_z (pos 0) (to_z w64 (of_z w64 g)) ≡ b → improves d (get_or os i z) ≡ b
   gains_by b test = tested_improves d (get_or os i z) g b fits worth test
 
-  -- the offer at i has no positive gain, or may not be made
+  -- the offer at i has no positive gain, or is not allowed
   pub Searched-passed : is_taken d may (get_or os i z) ≡ false → Searched d may (take (i + 1) os) None t v
   Searched-passed test =
       rw (take_more os i z at)
@@ -72,7 +72,7 @@ module _ {may : Offer → Bool} (d e : ℕ → ℕ → ℕ) (os : List Offer) (i
   whole : (take i os ++ get_or os i z ∷ []) ++ drop (i + 1) os ≡ os
   whole = ap (λ y. y ++ drop (i + 1) os) (sym (take_more os i z at)) ∙ take-append-drop (i + 1) os
 
-  -- the offer at i is the first with positive gain that may be made
+  -- the offer at i is the first with positive gain that is allowed
   pub Searched-taken : is_taken d may (get_or os i z) ≡ true →
       Searched d may os (Some (record { offer = get_or os i z; gain = to_z w64 (of_z w64 g) })) t v
   Searched-taken test =

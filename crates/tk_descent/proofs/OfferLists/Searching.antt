@@ -1,4 +1,4 @@
--- A search of a list in pieces.
+-- A search of a list in parts.
 use Rattle.std.proofs.Common.{◌≡◌, ℕ, suc, ◌+◌, ◌<◌, Bool, true, false, cond, List, [], ◌∷◌, ◌++◌, length, get_or, take}
 use Rattle.std.proofs.Common.{drop, Option, Some, None, refl, sym, ◌∙◌, ap, arith, append-nil, take-append-drop, subst}
 use Rattle.std.proofs.Common.{map}
@@ -37,7 +37,7 @@ step_found : (b : Bool) (o p : Offer) (r r2 : Option Offer) (k l : ℕ) → cond
 step_found true o p r r2 k l h f = (h, refl)
 step_found false o p r r2 k l h f = let q = f h in (q.0, ap suc q.1)
 
--- after a list without an offer of positive gain the next is searched
+-- after a list without an offer to take, the next list is searched
 search_after : (d : ℕ → ℕ → ℕ) (may : Offer → Bool) (xs ys : List Offer) → first_allowed d may xs ≡ None →
     (first_allowed d may (xs ++ ys) ≡ first_allowed d may ys)
     × (tests_until d may (xs ++ ys) ≡ tests_until d may xs + tests_until d may ys)
@@ -46,7 +46,7 @@ search_after d may (o ∷ xs) ys h = step_after (is_taken d may o) o (first_allo
     (first_allowed d may (xs ++ ys)) (first_allowed d may ys)
     (tests_until d may (xs ++ ys)) (tests_until d may xs) (tests_until d may ys) h (search_after d may xs ys)
 
--- one with such an offer is searched up to it
+-- a list with such an offer is searched up to it
 search_found : (d : ℕ → ℕ → ℕ) (may : Offer → Bool) (xs ys : List Offer) (p : Offer) → first_allowed d may xs ≡ Some p →
     (first_allowed d may (xs ++ ys) ≡ Some p) × (tests_until d may (xs ++ ys) ≡ tests_until d may xs)
 search_found d may [] ys p h = cc
@@ -57,7 +57,7 @@ search_found d may (o ∷ xs) ys p h = step_found (is_taken d may o) o p (first_
 saturated-saturated : (t j k : ℕ) → saturated (saturated (t + j) + k) ≡ saturated (t + (j + k))
 saturated-saturated t j k = omega arith
 
--- a search that found nothing goes on with another list
+-- a search that found nothing continues with another list
 pub Searched-on : {may : Offer → Bool} (d : ℕ → ℕ → ℕ) (xs ys : List Offer) (r : Option Found) (t u v : ℕ) →
     Searched d may xs None t u → Searched d may ys r u v → Searched d may (xs ++ ys) r t v
 Searched-on {may} d xs ys r t u v h k =
@@ -70,7 +70,7 @@ Searched-on {may} d xs ys r t u v h k =
           ∙ saturated-saturated t (tests_until d may xs) (tests_until d may ys) ∙ ap (λ z. saturated (t + z)) (sym e.1);
     }
 
--- a search that found an offer leaves the rest
+-- a search that found an offer skips the rest
 pub Searched-stop : {may : Offer → Bool} (d : ℕ → ℕ → ℕ) (xs ys : List Offer) (f : Found) (t u : ℕ) →
     Searched d may xs (Some f) t u → Searched d may (xs ++ ys) (Some f) t u
 Searched-stop {may} d xs ys f t u h =
@@ -97,7 +97,7 @@ module _ {X : Type 0} (d : ℕ → ℕ → ℕ) (f : X → List Offer) (xs : Lis
       rw pieces (Searched-stop d (flat_map f (take i xs) ++ f (get_or xs i x)) (flat_map f (drop (i + 1) xs)) r t v
       (Searched-on d (flat_map f (take i xs)) (f (get_or xs i x)) (Some r) t u v h k))
 
--- a search of nothing
+-- a search of the empty list
 pub Searched-none : {may : Offer → Bool} (d : ℕ → ℕ → ℕ) (t : ℕ) → t < 18446744073709551616 → Searched d may [] None t t
 Searched-none {may} d t h = record { found = refl; worth = tt; tests = omega (arith, h) }
 
@@ -109,7 +109,7 @@ pub on_list : {may : Offer → Bool} (d : ℕ → ℕ → ℕ) (os qs : List Off
     Searched d may os r t u → Searched d may qs r t u
 on_list {may} d os qs r t u same h = subst (λ z. Searched d may z r t u) same h
 
--- the offers of x with y, with the cities beside them in hand
+-- the offers of x with y, from the neighbours of both
 pub beside_offers : (C : List ℕ) (m n k : ℕ) (all : List Piece) (a b : Beside) (x y : ℕ) → k ≡ segment_count n m →
     n ≡ length C → map segment_of all ≡ all_segments (next_city C) (prev_city C) a.city →
     a.city ≡ x → a.after ≡ next_city C x → a.before ≡ prev_city C x →
@@ -127,7 +127,7 @@ beside_offers C m n k all a b x y count size are h1 h2 h3 h4 h5 h6 =
     sym (flat_map-map (or_offers a.city b.city b.after b.before) segment_of (take k all)) ∙ ap F ss in
     cc
 
--- what a search of them says
+-- a search of these offers
 pub with_city : {may : Offer → Bool} (C : List ℕ) (m n k : ℕ) (all : List Piece) (a b : Beside) (x y : ℕ)
     (d : ℕ → ℕ → ℕ) (r : Option Found) (t u : ℕ) → k ≡ segment_count n m → n ≡ length C →
     map segment_of all ≡ all_segments (next_city C) (prev_city C) a.city →

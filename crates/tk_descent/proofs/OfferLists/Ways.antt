@@ -61,7 +61,7 @@ pub last_same : (us : List ℕ) (y b a : ℕ) → Spans (us ++ y ∷ []) b a →
 last_same [] y b a h = sym h.1
 last_same (u ∷ us) y b a h = sym h.1 ∙ last_from-append u us (y ∷ [])
 
--- nx and pv are the neighbours of the cities of K, where each rotation of K shows them
+-- nx and pv are the neighbours of the cities of K, as each rotation of K shows them
 pub record Ways (K : List ℕ) (nx pv : ℕ → ℕ) : Type 0 where
   pub distinct : IsDistinct K
   pub next : (D : List ℕ) (b a : ℕ) → IsRotation K D → Spans D b a → nx a ≡ b

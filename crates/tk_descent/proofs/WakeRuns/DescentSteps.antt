@@ -41,7 +41,7 @@ module _ {may : List ℕ → Offer → Bool} (d : ℕ → ℕ → ℕ) (near : �
         (tests + tests_until d (may C) (offers C m (near x) x)))
         (sym woken) (move (subst (λ z. RunUnder may d near m T W C z looks moves tests) front run) (sym found) made)
 
--- a counter after a look, from the count before the descent and the descent's tests
+-- a counter after a look, from its value before the descent and the tests of the descent
 pub count_look : {may : Offer → Bool} (d e : ℕ → ℕ → ℕ) (os : List Offer) (r : Option Found)
     (before t u tests : ℕ) → e ≡ d →
     Searched e may os r t u → t ≡ saturated (before + tests) → u ≡ saturated (before + (tests + tests_until d may os))
@@ -102,7 +102,7 @@ less_move {may} d e os f t u m C D is same h made =
       found_improves d may os f.offer (sym (at_table d e os (Some f) t u same h).found),
     )
 
--- what a look found may be made
+-- an offer that a look found is allowed
 pub may_made : {may : Offer → Bool} (d : ℕ → ℕ → ℕ) (os : List Offer) (f : Found) (t u : ℕ) →
     Searched d may os (Some f) t u → may f.offer ≡ true
 may_made {may} d os f t u h = found_allowed d may os f.offer (sym h.found)
@@ -116,12 +116,12 @@ few_tests m k n moves tests L h j l f e b =
     let q : m * k * (n + 6 * moves) ≤ 300 * 2400000000100000 = mul-le-mul p few in
     omega (arith, q, b)
 
--- a counter from nothing that did not come to its end counts all
+-- a counter that started at 0 and has not saturated has the number of all tests
 pub fresh_count : (before after tests r : ℕ) → after ≡ saturated (before + tests) → r ≡ after - before → before ≡ 0 →
     r < 18446744073709551615 → tests ≡ r
 fresh_count before after tests r h j z few = omega arith
 
--- by how much a tour became shorter, as the difference of its lengths
+-- by how much a tour became shorter is the difference of its lengths
 pub saved_is : (b a : ℤ) (x y : ℕ) → b ≡ pos x → a ≡ pos y → y ≤ x → unsigned_abs (b -ℤ a) ≡ x - y
 saved_is b a x y eb ea le = ap (λ v. unsigned_abs (v -ℤ a)) eb ∙ ap (λ v. unsigned_abs (pos x -ℤ v)) ea ∙ apart
   where

@@ -1,4 +1,4 @@
--- What runs keep: a tour stays a tour, and looks are paid by the queue and by moves.
+-- Invariants of runs: a tour stays a tour, and the number of looks is bounded by the queue and the moves.
 use Rattle.std.proofs.Common.{ℕ, ◌+◌, ◌*◌, ◌≤◌, List, ◌∷◌, length, refl, ◌∙◌, arith}
 use Rattle.tk_tour.specs.Tour.{IsSizedTour}
 use Rattle.tk_descent.specs.Offers.{everything}
@@ -23,7 +23,7 @@ made_tour C D same t = (
 )
 
 module _ (d : ℕ → ℕ → ℕ) (near : ℕ → List ℕ) (m : ℕ) (T : List ℕ) where
-  -- a run from a tour ends in a tour
+  -- a run from a tour ends with a tour
   run_tour : {W C V : List ℕ} {looks moves tests : ℕ} → Run d near m T W C V looks moves tests → IsSizedTour T →
       IsSizedTour C
   run_tour start t = t
@@ -44,7 +44,7 @@ module _ (d : ℕ → ℕ → ℕ) (near : ℕ → List ℕ) (m : ℕ) (T : List
   moving_tour begin = sized
   moving_tour (pass {C = C} chain last some) = run_tour d near m C last (moving_tour chain)
 
-  -- passes whose last makes no move end in a local optimum
+  -- passes, the last of which makes no move, end with a local optimum
   pub sweeps_optimum : {D : List ℕ} {passes looks moves tests : ℕ} → IsTable d → m ≤ 3 →
       Sweeps d near m T D passes looks moves tests → IsLocalOptimum d near m D
   sweeps_optimum {D} is small s =

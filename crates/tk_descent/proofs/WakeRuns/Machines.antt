@@ -1,4 +1,4 @@
--- A descent's run is a run of the wake machine.
+-- A run of a descent is a run of the wake machine.
 use Rattle.std.proofs.Common.{◌≡◌, ℕ, ◌<◌, ◌≤◌, ◌≢◌, ◌⊎◌, Bool, true, false, cond, ◌||◌, ◌&&◌, eqb, List, [], ◌∷◌, ◌++◌}
 use Rattle.std.proofs.Common.{length, Option, Some, None, ◌↔◌, refl, sym, ◌∙◌, ap, arith, inl, inr, subst, flat_map}
 use Rattle.std.proofs.Math.Bool.{or_assoc, or-false}
@@ -26,7 +26,7 @@ use Rattle.tk_descent.proofs.OfferLists.Complete.{complete}
 use Rattle.tk_descent.proofs.OfferLists.OnCycle.{each-append, each_flat, found_has, each_or, more_made}
 use Rattle.tk_descent.specs.Ruled.{Each}
 
--- asleep
+-- a look that finds no offer
 
 none_of : (b : Bool) (o : Offer) (r : Option Offer) → cond b (Some o) r ≡ None → (b ≡ false) × (r ≡ None)
 none_of true o r h = cc
@@ -46,7 +46,7 @@ unlisted d may (p ∷ os) o e (inr l) a h =
     none_of (is_taken d may p) p (first_allowed d may os) e in
     unlisted d may os o q.1 l a h
 
--- on a cycle that fits, an offer may be made where the cycle after its move fits
+-- on a cycle that fits, an offer is allowed exactly if the cycle after its move fits
 abbrev pub IsRuleOn : (List ℕ → Type 0) → (List ℕ → Offer → Bool) → Type 0
 IsRuleOn fits may =
     (o : Offer) (C D : List ℕ) → IsDistinct C → fits C → Makes 3 o C D → (may C o ≡ true) ↔ fits D
@@ -64,7 +64,7 @@ none_improves fits may d near m x C rule is dis fit small e =
     unlisted d (may C) (offers C m (near x) x) p.0 e p.1 a
     (omega (arith, q.0, q.1, gain_law d is.0 C D m o i.1, i.2))
 
--- what is found is an offer of x
+-- the offer that a look at x finds is an offer of x
 
 each_held : (F : Offer → Type 0) (f : ℕ → List Offer) (xs : List ℕ) → ((y : ℕ) → holds xs y ≡ true → Each F (f y)) →
     Each F (flat_map f xs)
@@ -181,11 +181,11 @@ module _ (fits : List ℕ → Type 0) (may : List ℕ → Offer → Bool) (d : �
       WakesUnder fits d near m T W C V
   run_wakes r = (run_wakes_all r).0
 
-  -- each cycle on the way fits
+  -- each cycle of a run fits
   pub run_fits : {C V : List ℕ} {looks moves tests : ℕ} → RunUnder may d near m T W C V looks moves tests → fits C
   run_fits r = (run_wakes_all r).3
 
--- a run without a move leaves the cycle, and puts to sleep only cities without an offer
+-- a run without a move does not change the cycle, and puts only cities without an offer to sleep
 pub still : {may : List ℕ → Offer → Bool} (d : ℕ → ℕ → ℕ) (near : ℕ → List ℕ) (m : ℕ) (T W : List ℕ) {C V : List ℕ}
     {looks moves tests : ℕ} → RunUnder may d near m T W C V looks moves tests → moves ≡ 0 →
     (C ≡ T)

@@ -1,4 +1,4 @@
--- Several passes.
+-- Passes one after another.
 use Rattle.std.proofs.Common.{◌≡◌, ℕ, ◌+◌, ◌-◌, ◌*◌, ◌/◌, ◌≤◌, Bool, List, [], length, refl, sym, ◌∙◌, ap, arith}
 use Rattle.std.proofs.Common.{subst, ℤ, pos, FitsSigned, w64, to_z, of_z}
 use Rattle.std.proofs.lemmas.Int.{to_z-of_z}
@@ -48,7 +48,7 @@ more_tests b l q k made t u h j = omega arith
 more_swaps : (q k made r s : ℕ) → r ≤ 3 * q * k → s ≤ 3 * q * made → r + s ≤ 3 * q * (k + made)
 more_swaps q k made r s h j = omega arith
 
--- what is reported by other names of the distances and of the looks
+-- a report, with the distances and the number of looks replaced by equal ones
 pub IsReported-by : {d e : ℕ → ℕ → ℕ} {near : NearLists} {m looks n : ℕ} {from to : Stand} {report : Report} → e ≡ d →
     looks ≡ n → IsReported (record { distance = e; near = near; or_segment = m }) from to looks report →
     IsReported (record { distance = d; near = near; or_segment = m }) from to n report
@@ -56,7 +56,7 @@ IsReported-by {d} {e} {near} {m} {looks = looks} {from = from} {to = to} {report
     subst (λ z. IsReported (record { distance = d; near = near; or_segment = m }) from to z report) size
     (subst (λ z. IsReported (record { distance = z; near = near; or_segment = m }) from to looks report) same h)
 
--- what is reported of two descents, the one after the other
+-- the report of two descents, one after the other
 pub IsReported-more : {by : Terms} {from to : Stand} {tour asleep woken : List ℕ}
     {tests swaps flips looks more every : ℕ} {one two all : Report} →
     IsReported by from (record { tour = tour; awake = asleep; tests = tests; swaps = swaps; flips = flips }) looks one →
@@ -108,12 +108,12 @@ swept {may} d near m T C D passes looks moves tests more made tried all every ch
       tests_are = count;
     })
 
--- a counter after a pass, from the count before the first pass
+-- a counter after a pass, from its value before the first pass
 pub count_pass : (before t u tests tried : ℕ) → t ≡ saturated (before + tests) → u ≡ saturated (t + tried) →
     u ≡ saturated (before + saturated (tests + tried))
 count_pass before t u tests tried h j = omega (arith, h, j)
 
--- a counter from nothing counts as the passes do
+-- a counter that starts at 0 has the number of tests of the passes
 pub fresh_sweep : {may : List ℕ → Offer → Bool} (d : ℕ → ℕ → ℕ) (near : ℕ → List ℕ) (m : ℕ) (T D : List ℕ)
     (passes looks moves tests before after r : ℕ) → SweepsUnder may d near m T D passes looks moves tests →
     after ≡ saturated (before + tests) → r ≡ after - before → before ≡ 0 →

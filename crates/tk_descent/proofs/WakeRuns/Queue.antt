@@ -88,7 +88,7 @@ taken items flags x h e =
 pub keep_last_all : (n : ℕ) (xs : List ℕ) → length xs ≤ n → drop (length xs - n) xs ≡ xs
 keep_last_all n xs h = let e : length xs - n ≡ 0 = omega arith in ap (λ z. drop z xs) e
 
--- the queue after a push with room
+-- the queue after a push, if it has room
 pub pushed : (items : List ℕ) (flags : List Bool) (c : ℕ) → IsWaking items flags → c < length flags →
     get_or flags c false ≡ false → (drop (length (items ++ c ∷ []) - length flags) (items ++ c ∷ []) ≡ items ++ c ∷ [])
     × (holds items c ≡ false)
@@ -97,7 +97,7 @@ pushed items flags c h in' e = (
   sym (h.flag c in') ∙ e,
 )
 
--- the same, over the ring
+-- the queue and the flags after a city was woken, by the ring buffer
 pub pushed_ring : (items W : List ℕ) (flags : List Bool) (c cap : ℕ) (new : Buffer ℕ) (b : Bool) →
     IsWaking items flags → c < length flags → b ≡ get_or flags c b → b ≡ false → cap ≡ length flags →
     items ≡ W → new ≡ record { items = drop (length (items ++ c ∷ []) - cap) (items ++ c ∷ []); capacity = cap } →
@@ -123,7 +123,7 @@ few_set items (b ∷ flags) h low =
     let one : Bool → ℕ = λ z. cond z 1 0 in
     omega (arith, h.count, sum_by-cons one b flags, ap one off, count_by-le-length (λ z. z) flags)
 
--- no more cities are awake than there are
+-- at most all cities are awake
 pub few_awake : (items W : List ℕ) (flags : List Bool) (size count : ℕ) → IsWaking items flags → 1 ≤ length flags →
     items ≡ W → length flags - 1 ≡ size → count ≡ length W → count ≤ size
 few_awake items W flags size count h low same most is = omega (arith, few_set items flags h low, ap length same)

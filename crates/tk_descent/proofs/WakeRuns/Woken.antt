@@ -43,7 +43,7 @@ one_to-holds zero c h k = absurd (omega arith)
 one_to-holds (suc n) c h k = holds-push (one_to n) (suc n) c
     ∙ one_more_holds n c (λ l. one_to-holds n c h l) k (cases_eq (suc n) c)
 
--- all awake, from none
+-- waking all cities if none is awake
 pub woken_all : (n : ℕ) → woken_each [] (one_to n) ≡ one_to n
 woken_all zero = refl
 woken_all (suc n) =

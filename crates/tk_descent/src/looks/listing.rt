@@ -1,4 +1,4 @@
-//! The offers of a city with another, in their order.
+//! The offers of a city with another city, in order.
 ghost use Rattle.std.specs.Prelude.{◌≡◌, ◌+◌, ◌<◌, ◌≤◌, [], ◌∷◌, ◌++◌, length};
 ghost use Rattle.tk_distance.specs.Cities.{IsCity};
 ghost use Rattle.tk_tour.specs.Tour.{next_city, prev_city};
@@ -10,7 +10,7 @@ use crate::on_tour::{next, prev, size};
 use std::marker::Model;
 use tk_tour::TourStore;
 
-/// At most twelve offers, in their order.
+/// A list of at most twelve offers.
 #[derive(Drop)]
 pub(crate) struct OfferList {
     slots: [Offer; 12],
@@ -48,7 +48,7 @@ impl OfferList {
         self.len += 1;
     }
 
-    /// Appends the Or-offer of a segment from x between y and w, where neither lies in it.
+    /// Appends the Or-opt offer of a segment from x between y and w, unless one of these lies in the segment.
     fn push_or(&mut self, x: u32, y: u32, segment: &Segment, w: u32)
         requires { length self.old < 12 }
         ensures offers { self.new ≡ self.old ++ or_offer x y segment.now w }

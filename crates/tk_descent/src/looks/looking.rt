@@ -1,4 +1,4 @@
-//! A look at a city goes through its offers in order.
+//! A look at a city tries its offers in order.
 ghost use Rattle.std.specs.Prelude.{◌≡◌, ◌≤◌, ◌<◌, [], ◌∷◌, length, flat_map, All, IfSome, None, ◌+◌, ◌*◌, pos};
 ghost use Rattle.tk_near.specs.Near.{near_of};
 ghost use Rattle.tk_descent.specs.Looks.{Looked};
@@ -22,7 +22,8 @@ use tk_distance::Metric;
 use tk_near::Near;
 use tk_tour::TourStore;
 
-/// Tests a 2-opt offer; a gain is what is left of `margin` once the step b-d is added.
+/// Tests a 2-opt offer. Its gain is `margin` minus the length of the new edge b-d. If it is positive, the rule is asked
+/// whether the offer is allowed.
 #[inline(always)]
 fn try_two<S: TourStore, M: Metric, R: Rule>(
     tour: &S,
@@ -56,8 +57,9 @@ fn try_two<S: TourStore, M: Metric, R: Rule>(
     })
 }
 
-/// Tests the Or-offer of a segment between y and w, where neither lies in it; a gain is what is left of `margin` once
-/// the step from the segment's last city to w is added.
+/// Tests the Or-opt offer of a segment between y and w, unless one of these lies in the segment. Its gain is `margin`
+/// minus the length of the new edge from the last city of the segment to w. If it is positive, the rule is asked
+/// whether the offer is allowed.
 #[inline(always)]
 fn try_or<S: TourStore, M: Metric, R: Rule>(
     tour: &S,
@@ -95,7 +97,8 @@ fn try_or<S: TourStore, M: Metric, R: Rule>(
     })
 }
 
-/// What moving a segment between y and w gains before its step to w is paid; x-y and y-w have these distances.
+/// The gain of moving a segment from x to between y and w, before the length of its new edge to w is subtracted. The
+/// distance from x to y is `across`, and that from y to w is `beside`.
 #[inline(always)]
 fn margin_of<M: Metric>(
     metric: &M,
@@ -114,7 +117,8 @@ fn margin_of<M: Metric>(
     piece.freed - across + beside
 }
 
-/// Tests the Or-offers of a segment beside y.
+/// Tests the Or-opt offers of a segment from x between y and each of its neighbours. The distance from x to y is
+/// `across`.
 #[inline(always)]
 fn try_piece<S: TourStore, M: Metric, R: Rule>(
     tour: &S,
@@ -162,7 +166,7 @@ fn try_piece<S: TourStore, M: Metric, R: Rule>(
     )
 }
 
-/// Tests the Or-offers of segments beside y.
+/// Tests the Or-opt offers of segments from x between y and each of its neighbours.
 #[inline(always)]
 fn try_segments<S: TourStore, M: Metric, R: Rule>(
     tour: &S,
@@ -229,7 +233,8 @@ fn try_city<S: TourStore, M: Metric, R: Rule>(
     try_segments(tour, metric, rule, count, x.city, pieces, y, across)
 }
 
-/// Looks at a city: its first offer with positive gain, and the gain. It adds the tests to the count.
+/// Looks at a city: its first offer with positive gain that the rule allows, and its gain. It adds the tests to
+/// `count`.
 pub(crate) fn find_offer<S: TourStore, M: Metric, R: Rule>(
     tour: &S,
     metric: &M,

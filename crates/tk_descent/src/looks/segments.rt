@@ -18,7 +18,7 @@ impl Segment {
         c == x || c == self.middle || c == self.last
     }
 
-    /// The offer to move the segment from x to between y and w.
+    /// The offer to move the segment, which begins at x, to between y and w.
     #[inline(always)]
     pub(crate) fn offer(&self, x: u32, y: u32, w: u32) -> Offer
         ensures { result ≡ Or self.now.before x self.now.last self.now.after y w }
@@ -34,7 +34,7 @@ impl Segment {
     }
 }
 
-/// How many of the five segments there are on n cities.
+/// The number of segments that can be moved on n cities, of the five that begin at a city.
 pub(crate) fn segment_count(n: u32, or_segment: u32) -> usize
     ensures value { result ≡ segment_count n or_segment }
     ensures limit { result ≤ 5 }
@@ -50,7 +50,7 @@ pub(crate) fn segment_count(n: u32, or_segment: u32) -> usize
     }
 }
 
-/// The segments that begin at x: of one city, of two forward and backward, of three forward and backward.
+/// The segments that begin at x: one city, then two cities forwards and backwards, then three forwards and backwards.
 #[inline]
 pub(crate) fn segments_of<S: TourStore>(tour: &S, x: u32) -> [Segment; 5]
     requires { IsCity (length (S.cities tour.now)) x }

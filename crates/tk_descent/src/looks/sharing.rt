@@ -1,4 +1,4 @@
-//! What the gains of a look share.
+//! The distances that the gains of a look have in common.
 ghost use Rattle.std.specs.Prelude.{◌≡◌, ◌+◌, All, length, map, pos};
 ghost use Rattle.tk_distance.specs.Cities.{IsCity};
 ghost use Rattle.tk_tour.specs.Tour.{next_city, prev_city};
@@ -13,7 +13,7 @@ use crate::steps::{Measured, step, steps_beside};
 use tk_distance::Metric;
 use tk_tour::TourStore;
 
-/// A city with its neighbours on the tour, and how far they are.
+/// A city with its neighbours on the tour, and the distances to them.
 #[derive(Clone, Copy)]
 pub(crate) struct Beside {
     pub city: u32,
@@ -23,14 +23,14 @@ pub(crate) struct Beside {
     pub to_before: i64,
 }
 
-/// A segment from some x, and what the tour becomes shorter by where it is taken out.
+/// A segment that begins at a city x, and the length that the tour loses if the segment is removed.
 #[derive(Clone, Copy)]
 pub(crate) struct Piece {
     pub segment: Segment,
     pub freed: i64,
 }
 
-/// A city with its neighbours.
+/// A city with its neighbours, and the distances to them.
 #[inline]
 pub(crate) fn look_beside<S: TourStore, M: Metric>(
     tour: &S,
@@ -58,7 +58,7 @@ pub(crate) fn look_beside<S: TourStore, M: Metric>(
     }
 }
 
-/// A segment from x, whose ends are `begin` and `end` from the cities beside it.
+/// A segment from x, at the distances `begin` and `end` from the cities before and after it.
 #[inline]
 fn measure_piece<M: Metric>(metric: &M, x: u32, begin: i64, end: i64, segment: Segment) -> Piece
     requires city { IsCity (M.size_of metric.now) x }
@@ -74,7 +74,7 @@ fn measure_piece<M: Metric>(metric: &M, x: u32, begin: i64, end: i64, segment: S
     }
 }
 
-/// A segment of several cities from x, whose first one is `begin` from the city before it.
+/// A segment of several cities from x, at the distance `begin` from the city before it.
 #[inline]
 fn measure_longer<M: Metric>(
     metric: &M,
@@ -94,7 +94,7 @@ fn measure_longer<M: Metric>(
     measure_piece(metric, x, begin, end, segment)
 }
 
-/// The segments that begin at x, each with what it frees.
+/// The segments that begin at x, each with the length that the tour loses if it is removed.
 #[inline]
 pub(crate) fn pieces_of<S: TourStore, M: Metric>(
     tour: &S,

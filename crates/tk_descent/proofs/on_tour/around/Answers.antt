@@ -7,7 +7,7 @@ use Rattle.tk_tour.specs.Tour.{next_city, prev_city}
 use Rattle.tk_tour.proofs.Tours.{next_city-city, prev_city-city}
 use Rattle.tk_descent.proofs.on_tour.around.Goals as goal
 
--- the first three on a way that keeps to the cities
+-- the first three cities of a way along the tour
 three_cities : (n : ℕ) (step : ℕ → ℕ) (c : ℕ) → ((d : ℕ) → IsCity n (step d)) → All (IsCity n) (three_from step c)
 three_cities n step c way =
     All-cons (IsCity n) (step c) (step (step c) ∷ step (step (step c)) ∷ []) (way c)

@@ -6,7 +6,7 @@ use Rattle.tk_descent.specs.declared.offer.Offer.{Offer}
 use Rattle.tk_descent.specs.declared.offer.Segment.{Segment}
 use Rattle.tk_descent.proofs.looks.listing.offers_with.Goals as goal
 
--- the Or-offers of one more segment
+-- the Or-opt offers of one more segment
 more_offers : (front old mid new : List Offer) (ss : List Segment) (i x y after before : ℕ) (none : Segment) →
     i < length ss → old ≡ front ++ flat_map (or_offers x y after before) (take i ss) →
     mid ≡ old ++ or_offer x y (get_or ss i none) after → new ≡ mid ++ or_offer x y (get_or ss i none) before →

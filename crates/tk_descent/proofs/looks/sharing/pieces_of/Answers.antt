@@ -12,7 +12,7 @@ use Rattle.tk_descent.proofs.looks.sharing.pieces_of.Goals.{After-segments_of}
 abbrev none : Segment
 none = record { before = 0; middle = 0; last = 0; after = 0 }
 
--- a longer segment is one of cities, and the way to its begin is as long from there, where it begins beside x
+-- the ends of a longer segment are cities; the distance from x to the city before the segment is the same either way
 longer : (g : Over) (c : After-segments_of g) (k p : ℕ) (s : ℤ) → k < 5 →
     (get_or c.segments_of.result k none).before ≡ p →
     s ≡ pos (g.M.Metric.distance c.args.metric.now c.args.x.now.city p) →
