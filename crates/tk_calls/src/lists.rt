@@ -5,7 +5,9 @@ use crate::again;
 use crate::instances::SQUARE;
 use crate::readers::problem_of;
 use crate::refusals::Stopped;
-use tk_metric::{BothAxes, Metric, Near, Planar, Table, near_scan, near_sweep, near_tree};
+use tk_metric::{
+    BothAxes, Metric, Near, Planar, Table, near_among, near_scan, near_sweep, near_tree,
+};
 use tk_text::{CANDIDATE_LIMIT, Problem};
 
 /// Near lists by a scan, whose number and length are printed.
@@ -54,6 +56,18 @@ fn scan<P: Planar>(rt: &HostRuntime, places: &P) -> Result<(), Stopped>
     )
 }
 
+/// Finds near lists of two of the first three cities.
+fn scan_part<P: Planar>(rt: &HostRuntime, places: &P) -> Result<(), Stopped>
+    requires { 2 < P.size_of places.now }
+{
+    let alloc = rt.alloc();
+    show_answer(
+        rt,
+        "near_among",
+        again!(rt, "near_among", near_among(alloc, places, 3, 2)),
+    )
+}
+
 /// Finds near lists of two cities by a sweep.
 fn sweep<P: Planar>(rt: &HostRuntime, places: &P) -> Result<(), Stopped>
     requires { 2 < P.size_of places.now }
@@ -87,6 +101,7 @@ fn find_each(rt: &HostRuntime, problem: &Problem) -> Result<(), Stopped> {
         return Err(Stopped::Otherwise);
     }
     scan(rt, &planes)?;
+    scan_part(rt, &planes)?;
     sweep(rt, &planes)?;
     search_tree(rt, &planes)
 }

@@ -21,8 +21,8 @@ pub mod limits {
 /// Distances and near lists.
 pub mod distances {
     pub use tk_metric::{
-        BothAxes, Metric, Near, Planar, Planes, Sub, Table, Triangle, Turned, near_lists,
-        near_scan, near_sweep, near_tree, root, root_up,
+        BothAxes, Metric, Near, Planar, Planes, Sub, Table, Triangle, Turned, near_among,
+        near_lists, near_scan, near_sweep, near_tree, root, root_up,
     };
 }
 

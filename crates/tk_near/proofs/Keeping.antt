@@ -193,5 +193,6 @@ pub count_self : (c b : ℕ) → 1 ≤ c → b ≡ c →
     cond (nat_lt c b) (b - 2) (b - 1) ≡ cond (nat_lt c (b + 1)) (b + 1 - 2) (b + 1 - 1)
 count_self c b m e = grind (arith, nat_tests)
 
-pub count_all : (c n : ℕ) → 1 ≤ c → c ≤ n → cond (nat_lt c (n + 1)) (n + 1 - 2) (n + 1 - 1) ≡ n - 1
-count_all c n m l = grind (arith, nat_tests)
+-- at the end of a scan of n cities, there are at least n - 1
+pub count_most : (c n k : ℕ) → k < n → k ≤ cond (nat_lt c (n + 1)) (n + 1 - 2) (n + 1 - 1)
+count_most c n k l = grind (arith, nat_tests)

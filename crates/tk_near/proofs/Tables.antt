@@ -9,7 +9,7 @@ use Rattle.std.proofs.Math.Nat.{mul-le-mul_right}
 use Rattle.tk_near.specs.declared.candidates.Candidate.{Candidate}
 use Rattle.tk_distance.specs.Cities.{IsCity}
 use Rattle.tk_near.specs.Near.{IsNear, block}
-use Rattle.tk_near.specs.Keeping.{cities_kept, overwritten, AreFilled}
+use Rattle.tk_near.specs.Keeping.{cities_kept, overwritten, AreFilledAmong}
 
 pub product_step : (a k : ℕ) → 1 ≤ a → (a - 1) * k + k ≡ a * k
 product_step zero k l = absurd (omega arith)
@@ -92,51 +92,52 @@ block_other k c b xs row one two ne l e =
     (cases_lt b c)
 
 -- the list of one more city is written
-pub AreFilled-more : (dist : ℕ → ℕ → ℕ) (n k c : ℕ) (Done Then : ℕ → Type 0) (xs row : List ℕ) →
-    AreFilled dist n k Done xs → IsCity n c → IsNear dist n k c row → ((a : ℕ) → Then a → a ≢ c → Done a) →
-    AreFilled dist n k Then (overwritten ((c - 1) * k) row xs)
-AreFilled-more dist n k c Done Then xs row h city near only =
+pub AreFilledAmong-more : (dist : ℕ → ℕ → ℕ) (n m k c : ℕ) (Done Then : ℕ → Type 0) (xs row : List ℕ) →
+    AreFilledAmong dist n m k Done xs → IsCity n c → IsNear dist m k c row → ((a : ℕ) → Then a → a ≢ c → Done a) →
+    AreFilledAmong dist n m k Then (overwritten ((c - 1) * k) row xs)
+AreFilledAmong-more dist n m k c Done Then xs row h city near only =
     let fits : c * k ≤ length xs = omega (arith, mul-le-mul_right k city.1, h.count) in
     let step = product_step c k city.0 in
     let front : List ℕ = take ((c - 1) * k) xs in
-    let m : length front ≡ (c - 1) * k = length-take-le ((c - 1) * k) xs (omega arith) in
+    let l : length front ≡ (c - 1) * k = length-take-le ((c - 1) * k) xs (omega arith) in
     record {
       count = length-append (front ++ row) (drop ((c - 1) * k + length row) xs)
           ∙ omega (arith, length-append front row, length-drop ((c - 1) * k + length row) xs, near.count, h.count);
       each = λ a there done. ⊎_elim
-          (λ same. subst (λ v. IsNear dist n k v (block k (overwritten ((c - 1) * k) row xs) v)) (sym same)
-          (subst (IsNear dist n k c) (sym (block_here k c xs row city.0 fits near.count)) near))
-          (λ apart. subst (IsNear dist n k a) (sym (block_other k c a xs row city.0 there.0 apart fits near.count))
+          (λ same. subst (λ v. IsNear dist m k v (block k (overwritten ((c - 1) * k) row xs) v)) (sym same)
+          (subst (IsNear dist m k c) (sym (block_here k c xs row city.0 fits near.count)) near))
+          (λ apart. subst (IsNear dist m k a) (sym (block_other k c a xs row city.0 there.0 apart fits near.count))
           (h.each a there (only a done apart)))
           (cases_eq a c);
     }
 
-pub AreFilled-none : (dist : ℕ → ℕ → ℕ) (n k : ℕ) (Done : ℕ → Type 0) (xs : List ℕ) → length xs ≡ n * k →
-    ((a : ℕ) → IsCity n a → Done a → ⊥) → AreFilled dist n k Done xs
-AreFilled-none dist n k Done xs e none = record {
+pub AreFilledAmong-none : (dist : ℕ → ℕ → ℕ) (n m k : ℕ) (Done : ℕ → Type 0) (xs : List ℕ) → length xs ≡ n * k →
+    ((a : ℕ) → IsCity n a → Done a → ⊥) → AreFilledAmong dist n m k Done xs
+AreFilledAmong-none dist n m k Done xs e none = record {
   count = e;
   each = λ a city done. absurd (none a city done);
 }
 
-pub AreFilled-same : (dist : ℕ → ℕ → ℕ) (n k : ℕ) (Done Then : ℕ → Type 0) (xs : List ℕ) → AreFilled dist n k Done xs →
-    ((a : ℕ) → IsCity n a → Then a → Done a) → AreFilled dist n k Then xs
-AreFilled-same dist n k Done Then xs h only = record {
+pub AreFilledAmong-same : (dist : ℕ → ℕ → ℕ) (n m k : ℕ) (Done Then : ℕ → Type 0) (xs : List ℕ) →
+    AreFilledAmong dist n m k Done xs → ((a : ℕ) → IsCity n a → Then a → Done a) → AreFilledAmong dist n m k Then xs
+AreFilledAmong-same dist n m k Done Then xs h only = record {
   count = h.count;
   each = λ a city done. h.each a city (only a city done);
 }
 
 -- the same, as `write_cities` says it
 -- lists that take the whole of a vector, over the front of which they are written
-pub AreFilled-front : (dist : ℕ → ℕ → ℕ) (n k kept len : ℕ) (Done : ℕ → Type 0) (new rest : List ℕ) →
-    length new ≡ len → kept ≡ k → AreFilled dist n kept Done new → AreFilled dist n k Done (take len (new ++ rest))
-AreFilled-front dist n k kept len Done new rest size width filled =
-    subst (λ lists. AreFilled dist n k Done lists) (sym (take_at new rest len size))
-    (subst (λ wide. AreFilled dist n wide Done new) width filled)
+pub AreFilledAmong-front : (dist : ℕ → ℕ → ℕ) (n m k kept len : ℕ) (Done : ℕ → Type 0) (new rest : List ℕ) →
+    length new ≡ len → kept ≡ k → AreFilledAmong dist n m kept Done new →
+    AreFilledAmong dist n m k Done (take len (new ++ rest))
+AreFilledAmong-front dist n m k kept len Done new rest size width filled =
+    subst (λ lists. AreFilledAmong dist n m k Done lists) (sym (take_at new rest len size))
+    (subst (λ wide. AreFilledAmong dist n m wide Done new) width filled)
 
-pub AreFilled-write : (dist : ℕ → ℕ → ℕ) (n k c : ℕ) (Done Then : ℕ → Type 0) (xs new : List ℕ)
-    (kept : List Candidate) → AreFilled dist n k Done xs → IsCity n c → length kept ≡ k →
-    IsNear dist n k c (cities_kept kept) → ((a : ℕ) → Then a → a ≢ c → Done a) →
-    new ≡ overwritten ((c - 1) * length kept) (cities_kept kept) xs → AreFilled dist n k Then new
-AreFilled-write dist n k c Done Then xs new kept h city size near only e =
-    subst (AreFilled dist n k Then) (sym (e ∙ ap (λ v. overwritten ((c - 1) * v) (cities_kept kept) xs) size))
-    (AreFilled-more dist n k c Done Then xs (cities_kept kept) h city near only)
+pub AreFilledAmong-write : (dist : ℕ → ℕ → ℕ) (n m k c : ℕ) (Done Then : ℕ → Type 0) (xs new : List ℕ)
+    (kept : List Candidate) → AreFilledAmong dist n m k Done xs → IsCity n c → length kept ≡ k →
+    IsNear dist m k c (cities_kept kept) → ((a : ℕ) → Then a → a ≢ c → Done a) →
+    new ≡ overwritten ((c - 1) * length kept) (cities_kept kept) xs → AreFilledAmong dist n m k Then new
+AreFilledAmong-write dist n m k c Done Then xs new kept h city size near only e =
+    subst (AreFilledAmong dist n m k Then) (sym (e ∙ ap (λ v. overwritten ((c - 1) * v) (cities_kept kept) xs) size))
+    (AreFilledAmong-more dist n m k c Done Then xs (cities_kept kept) h city near only)

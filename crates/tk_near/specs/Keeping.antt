@@ -57,7 +57,11 @@ pub record KeepsFirst (dist : ℕ → ℕ → ℕ) (c k m : ℕ) (Seen : ℕ →
   pub holds : (b : ℕ) → Seen b → Contains whole (candidate dist c b)
   pub first : kept ≡ take k (whole ++ replicate k open_place)
 
--- k entries for each of n cities; those of the cities that satisfy Done are their near lists
-pub record AreFilled (dist : ℕ → ℕ → ℕ) (n k : ℕ) (Done : ℕ → Type 0) (entries : List ℕ) : Type 0 where
+-- k entries for each of n cities; those of the cities that satisfy Done are their near lists among the cities 1 to m
+pub record AreFilledAmong (dist : ℕ → ℕ → ℕ) (n m k : ℕ) (Done : ℕ → Type 0) (entries : List ℕ) : Type 0 where
   pub count : length entries ≡ n * k
-  pub each : (c : ℕ) → IsCity n c → Done c → IsNear dist n k c (block k entries c)
+  pub each : (c : ℕ) → IsCity n c → Done c → IsNear dist m k c (block k entries c)
+
+-- the same, with near lists among all n cities
+abbrev pub AreFilled : (ℕ → ℕ → ℕ) → ℕ → ℕ → (ℕ → Type 0) → List ℕ → Type 0
+AreFilled dist n k = AreFilledAmong dist n n k

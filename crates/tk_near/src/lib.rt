@@ -10,7 +10,7 @@ mod table;
 
 pub use candidates::measure;
 pub use list_length::ListLength;
-pub use near::{Near, near_lists_agree, near_scan};
+pub use near::{Near, near_among, near_lists_agree, near_scan};
 pub use plane::left::{Found, Left};
 pub use plane::placed::Placed;
 pub use plane::sweep::{near_sweep, order_by_x};

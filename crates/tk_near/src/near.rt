@@ -1,9 +1,9 @@
-//! Near lists: for each city, its nearest other cities, with ties broken by number.
+//! Near lists: for each city, its nearest other cities, among all cities or a part of them, with ties broken by number.
 ghost use Rattle.std.specs.Prelude.{◌≡◌, ◌*◌, ◌≤◌, ◌<◌, IfOk, All, length, ⊤};
 ghost use Rattle.tk_problem.specs.declared.limits.TheConstants.{CANDIDATE_LIMIT, CITY_LIMIT};
 ghost use Rattle.tk_distance.specs.Cities.{IsCity};
-ghost use Rattle.tk_near.specs.Near.{IsNear, IsOther, AreNearLists, near_of};
-ghost use Rattle.tk_near.specs.Keeping.{AreFilled, cities_kept};
+ghost use Rattle.tk_near.specs.Near.{IsNear, IsOther, AreNearLists, AreNearListsAmong, near_of};
+ghost use Rattle.tk_near.specs.Keeping.{AreFilled, AreFilledAmong, cities_kept};
 
 use crate::candidates::{Candidate, OPEN, keep, measure, write_cities};
 use std::alloc::{AllocError, Global};
@@ -34,6 +34,16 @@ impl Near {
         requires limit { k ≤ CANDIDATE_LIMIT }
         requires filled { AreFilled (M.distance m.now) (M.size_of m.now) k (λ _. ⊤) entries.items }
         ensures { AreNearLists (M.distance m.now) (M.size_of m.now) k result }
+    {
+        Near::from_filled_among(m, m.size(), k, entries)
+    }
+
+    /// The near lists among the cities 1 to `among`, from the filled lists of all cities.
+    fn from_filled_among<M: Metric>(m: &M, among: u32, k: u32, entries: Vec<u32>) -> Near
+        requires part { among ≤ M.size_of m.now }
+        requires limit { k ≤ CANDIDATE_LIMIT }
+        requires filled { AreFilledAmong (M.distance m.now) (M.size_of m.now) among k (λ _. ⊤) entries.items }
+        ensures { AreNearListsAmong (M.distance m.now) (M.size_of m.now) among k result }
     {
         Near {
             size: m.size(),
@@ -80,16 +90,17 @@ impl Near {
     }
 }
 
-/// Finds the nearest other cities of city c, as many as there is room for.
-fn scan_city<M: Metric>(m: &M, c: u32, kept: &mut [Candidate])
+/// Finds the nearest of the cities 1 to `among` other than city c, as many as there is room for.
+fn scan_city<M: Metric>(m: &M, among: u32, c: u32, kept: &mut [Candidate])
+    requires part { among ≤ M.size_of m.now }
     requires city { IsCity (M.size_of m.now) c }
     requires low { 1 ≤ length kept.old }
-    requires high { length kept.old < M.size_of m.now }
+    requires high { length kept.old < among }
     ensures size { length kept.new ≡ length kept.old }
-    ensures near { IsNear (M.distance m.now) (M.size_of m.now) (length kept.old) c (cities_kept kept.new) }
+    ensures near { IsNear (M.distance m.now) among (length kept.old) c (cities_kept kept.new) }
 {
     kept.fill(OPEN);
-    for b in 1..m.size() + 1 {
+    for b in 1..among + 1 {
         if b != c {
             keep(kept, measure(m, c, b));
         }
@@ -108,15 +119,16 @@ pub fn room_for<M: Metric>(alloc: Global, m: &M, k: u32) -> Result<Vec<u32>, All
     vec![in alloc; 0u32; count]
 }
 
-/// Fills the list of each city, in the order of their numbers.
-fn fill_by_scan<M: Metric>(m: &M, kept: &mut [Candidate], entries: &mut [u32])
+/// Fills the list of each city with the nearest of the cities 1 to `among`, in the order of the numbers of the cities.
+fn fill_by_scan<M: Metric>(m: &M, among: u32, kept: &mut [Candidate], entries: &mut [u32])
+    requires part { among ≤ M.size_of m.now }
     requires low { 1 ≤ length kept.old }
-    requires high { length kept.old < M.size_of m.now }
+    requires high { length kept.old < among }
     requires room { length entries.old ≡ M.size_of m.now * length kept.old }
-    ensures { AreFilled (M.distance m.now) (M.size_of m.now) (length kept.old) (λ _. ⊤) entries.new }
+    ensures { AreFilledAmong (M.distance m.now) (M.size_of m.now) among (length kept.old) (λ _. ⊤) entries.new }
 {
     for c in 1..m.size() + 1 {
-        scan_city(m, c, kept);
+        scan_city(m, among, c, kept);
         write_cities(entries, c, kept);
     }
 }
@@ -131,10 +143,25 @@ pub fn near_scan<M: Metric>(alloc: Global, m: &M, k: u32) -> Result<Near, AllocE
     requires high { k < M.size_of m.now }
     ensures { IfOk result (AreNearLists (M.distance m.now) (M.size_of m.now) k) }
 {
+    near_among(alloc, m, m.size(), k)
+}
+
+/// The near lists among the cities 1 to `among`, with k cities each, by a scan of these cities for each city of the
+/// metric.
+///
+/// # Errors
+/// `AllocError` if memory runs out.
+pub fn near_among<M: Metric>(alloc: Global, m: &M, among: u32, k: u32) -> Result<Near, AllocError>
+    requires part { among ≤ M.size_of m.now }
+    requires low { 1 ≤ k }
+    requires limit { k ≤ CANDIDATE_LIMIT }
+    requires high { k < among }
+    ensures { IfOk result (AreNearListsAmong (M.distance m.now) (M.size_of m.now) among k) }
+{
     let mut kept = vec![in alloc; OPEN; k as usize]?;
     let mut entries = room_for(alloc, m, k)?;
-    fill_by_scan(m, &mut kept, &mut entries);
-    Ok(Near::from_filled(m, k, entries))
+    fill_by_scan(m, among, &mut kept, &mut entries);
+    Ok(Near::from_filled_among(m, among, k, entries))
 }
 
 /// A law: two near lists of one city are equal.

@@ -2,13 +2,13 @@
 ghost use Rattle.std.specs.Prelude.{◌≡◌};
 ghost use Rattle.tk_metric.specs.Near.{AreNearest};
 
-use crate::given::{expect_width, near_of};
+use crate::given::{expect_width, near_of, triangle};
 use crate::places::{PART, SQUARE, WHOLE, places, planes_of, random_places};
 use std::alloc::Global;
 use std::process::Abort;
 use tk_metric::{
-    BothAxes, Metric, Near, Planar, Planes, Table, Turned, near_lists, near_lists_agree,
-    near_sweep, near_tree,
+    BothAxes, Metric, Near, Planar, Planes, Sub, Table, Turned, near_among, near_lists,
+    near_lists_agree, near_sweep, near_tree,
 };
 use tk_text::PlaneKind;
 
@@ -26,6 +26,19 @@ fn near_by_tree<P: BothAxes>(rt: &impl Abort, alloc: Global, metric: &P, k: u32)
 {
     expect_width(rt, metric.size(), k);
     near_tree(alloc, metric, k).expect(rt, "memory for near lists")
+}
+
+/// The near lists among the cities 1 to `among`, with k cities each.
+fn near_among_first<M: Metric>(
+    rt: &impl Abort,
+    alloc: Global,
+    metric: &M,
+    among: u32,
+    k: u32,
+) -> Near {
+    expect_width(rt, among, k);
+    assert!(rt; among <= metric.size());
+    near_among(alloc, metric, among, k).expect(rt, "memory for near lists")
 }
 
 /// The near lists of a table, with k cities each.
@@ -145,6 +158,44 @@ fn each_kind(rt: HostRuntime) {
         (PlaneKind::Att, corners, WHOLE, 1, &[2, 1, 1]),
     ];
     expect_rows(&rt, rt.alloc(), rows);
+}
+
+#[test]
+fn copies_of_a_depot_are_in_no_list(rt: HostRuntime) {
+    // the depot is in the middle of a square, and its corners are customers 1 to 4 of the ring
+    let corners = &[(5, 5), (0, 0), (10, 10), (10, 0), (0, 10)];
+    let points = places(&rt, rt.alloc(), corners, WHOLE);
+    let planes = planes_of(&rt, PlaneKind::Euc2d, &points);
+    let ring = Sub::new(&planes, &[2, 3, 4, 5, 1, 1, 1]);
+    let rows: &[(u32, u32, &[u32])] = &[
+        (4, 1, &[3, 3, 1, 1, 1, 1, 1]),
+        (4, 2, &[3, 4, 3, 4, 1, 2, 1, 2, 1, 2, 1, 2, 1, 2]),
+        (
+            4,
+            3,
+            &[
+                3, 4, 2, 3, 4, 1, 1, 2, 4, 1, 2, 3, 1, 2, 3, 1, 2, 3, 1, 2, 3,
+            ],
+        ),
+        (2, 1, &[2, 1, 1, 1, 1, 1, 1]),
+        // with the first copy of the depot among them, it is the nearest of each customer
+        (5, 1, &[5, 5, 5, 5, 1, 5, 5]),
+    ];
+    for (among, k, want) in rows {
+        expect(
+            &rt,
+            &near_among_first(&rt, rt.alloc(), &ring, *among, *k),
+            want,
+        );
+    }
+}
+
+#[test]
+fn near_customers_by_weights(rt: HostRuntime) {
+    // 1-2: 4, 1-3: 9, 2-3: 7, 1-4: 1, 2-4: 5, 3-4: 5, 1-5: 3, 2-5: 3, 3-5: 2, 4-5: 6
+    let metric = triangle(&rt, 5, &[4, 9, 7, 1, 5, 5, 3, 3, 2, 6]);
+    let among = near_among_first(&rt, rt.alloc(), &metric, 3, 2);
+    expect(&rt, &among, &[2, 3, 1, 3, 2, 1, 1, 2, 3, 1]);
 }
 
 /// Checks that the near lists of 300 points in a box agree.

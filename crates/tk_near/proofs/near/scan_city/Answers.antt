@@ -1,9 +1,9 @@
-use Rattle.std.proofs.Common.{arith, ◌≡◌, ◌≢◌, ℕ, ◌+◌, ◌-◌, ◌≤◌, ◌<◌, cond, ap, ◌∙◌, length}
+use Rattle.std.proofs.Common.{arith, ◌≡◌, ◌≢◌, ℕ, ◌+◌, ◌-◌, ◌≤◌, ◌<◌, cond, length, subst, sym}
 use Rattle.std.specs.Prelude.{nat_lt, replicate}
 use Rattle.tk_near.specs.Keeping.{open_place}
 use Rattle.tk_near.proofs.Keeping.{KeepsFirst-none, KeepsFirst-more, KeepsFirst-same, KeepsFirst-count}
 use Rattle.tk_near.proofs.Keeping.{IsNear-from_kept, kept_climbing, kept_length, same_twice, count_others, count_self}
-use Rattle.tk_near.proofs.Keeping.{count_all}
+use Rattle.tk_near.proofs.Keeping.{count_most}
 use Rattle.tk_near.proofs.near.scan_city.Goals as goal
 use Rattle.tk_near.proofs.near.scan_city.Goals.{then-b-c, else-b-c}
 
@@ -46,13 +46,12 @@ loop-b-preserved g c =
 
 pub returns-clause-near : goal.returns-clause-near
 returns-clause-near g c =
-    let n = g.M.Metric.size_of c.args.m.now in
+    let n : ℕ = c.args.among in
     let k : ℕ = length c.args.kept.now in
     let m : ℕ = cond (nat_lt c.args.c c.loop-b.b) (c.loop-b.b - 2) (c.loop-b.b - 1) in
     let end : c.loop-b.b ≡ n + 1 = omega arith in
-    let count : m ≡ n - 1 = ap (λ v. cond (nat_lt c.args.c v) (v - 2) (v - 1)) end
-    ∙ count_all c.args.c n c.requires.city.0 c.requires.city.1 in
-    let enough : k ≤ m = omega arith in
+    let enough : k ≤ m = subst (λ v. k ≤ cond (nat_lt c.args.c v) (v - 2) (v - 1)) (sym end)
+    (count_most c.args.c n k c.requires.high) in
     IsNear-from_kept (g.M.Metric.distance c.args.m.now) n c.args.c k m
     (λ a. (1 ≤ a) × (a < c.loop-b.b) × (a ≢ c.args.c)) c.loop-b.kept c.loop-b.invariant (omega arith) enough
     (λ b h ne. (h.0, omega (arith, h.1), ne)) (λ b s. ((s.0, omega (arith, s.1)), s.2))
