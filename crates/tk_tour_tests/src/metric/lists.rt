@@ -166,6 +166,7 @@ fn copies_of_a_depot_are_in_no_list(rt: HostRuntime) {
     let corners = &[(5, 5), (0, 0), (10, 10), (10, 0), (0, 10)];
     let points = places(&rt, rt.alloc(), corners, WHOLE);
     let planes = planes_of(&rt, PlaneKind::Euc2d, &points);
+    assert!(rt; planes.size() == 5);
     let ring = Sub::new(&planes, &[2, 3, 4, 5, 1, 1, 1]);
     let rows: &[(u32, u32, &[u32])] = &[
         (4, 1, &[3, 3, 1, 1, 1, 1, 1]),
