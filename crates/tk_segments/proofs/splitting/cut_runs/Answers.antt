@@ -1,3 +1,4 @@
+use Rattle.std.proofs.lemmas.Grind.{common_steps}
 use Rattle.std.proofs.Common.{◌≡◌, true, false, ◌<◌, ◌≤◌, ◌+◌, ◌-◌, ◌∙◌, ap, sym, subst, ℕ, List, length, take, arith}
 use Rattle.std.proofs.Common.{refl, get_or}
 use Rattle.std.specs.Prelude.{sum_by}
@@ -131,3 +132,12 @@ returns-clause-kept c =
           is.0 is.1 c.note_run.ensures;
       table_size = c.note_run.ensures.size;
     }
+
+pub returns-then-v-size-clause-begins : goal.returns-then-v-size-clause-begins
+returns-then-v-size-clause-begins c = grind (arith, common_steps)
+
+pub returns-clause-index : goal.returns-clause-index
+returns-clause-index c = grind (arith, common_steps)
+
+pub returns-clause-more : goal.returns-clause-more
+returns-clause-more c = grind (arith, common_steps)

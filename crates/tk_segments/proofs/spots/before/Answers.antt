@@ -1,3 +1,4 @@
+use Rattle.std.proofs.lemmas.Grind.{common_steps}
 use Rattle.std.proofs.Common.{◌≡◌, ◌<◌, ◌+◌, ◌⊎◌, inl, inr, ℕ, length, take, refl, arith, get_or}
 use Rattle.std.specs.Prelude.{sum_by}
 use Rattle.tk_segments.specs.Runs.{run_size}
@@ -29,3 +30,9 @@ returns c = λ v w h a.
     ] in
     before_first c.args.size s v w k runs spot (record { index = k; place = c.place_in.result }) run
     (get_or runs k no_run) no_run c.requires.laid f a first cases refl refl c.place_in.ensures.place
+
+pub returns-then-spot-run : goal.returns-then-spot-run
+returns-then-spot-run c = grind (arith, common_steps)
+
+pub returns-then-spot-run-2 : goal.returns-then-spot-run-2
+returns-then-spot-run-2 c = grind (arith, common_steps)

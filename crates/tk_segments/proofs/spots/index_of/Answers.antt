@@ -1,3 +1,4 @@
+use Rattle.std.proofs.lemmas.Grind.{common_steps}
 use Rattle.std.proofs.Common.{◌<◌, ◌≤◌, ◌-◌, ◌*◌, ◌/◌, ℕ, List, length, arith, get_or}
 use Rattle.tk_segments.specs.Runs.{AreLaidOut, AreNamed, CanBeFound}
 use Rattle.tk_segments.specs.declared.run.Run.{Run}
@@ -52,3 +53,6 @@ loop-index-preserved c =
     let f = next_one c.args.size c.args.place h.index c.args.runs.now c.args.home.now c.args.table.now c.requires.laid
     c.requires.named c.requires.found h.invariant.index_in c.loop-index-test.true c.requires.place_in in
     record { index_in = f.1; from = f.2 }
+
+pub returns-clause-holds : goal.returns-clause-holds
+returns-clause-holds c = grind (arith, common_steps)

@@ -9,3 +9,6 @@ returns-in-Tour-clause-inverse c =
     let old = c.in-Ok.place in
     let w : take old.len (new ++ drop (length new) old.items) ≡ new = grind (arith, common_steps) in
     subst (IsInverse c.args.cities.now) (sym w) c.in-Tour.ensures.placed
+
+pub place_cities-requires-clause-free : goal.place_cities-requires-clause-free
+place_cities-requires-clause-free c = grind (arith, common_steps)

@@ -66,3 +66,6 @@ invariant_of-self-2-clause-sizes c =
     let s = c.args.self.now in
     let w = written (goal.at.invariant_of-self-2-clause-sizes c).After-exchange_seen in
     (ap length w ∙ c.exchange_seen.auto.order ∙ ap length c.deref_mut.ensures.value ∙ s.sizes.0, s.sizes.1)
+
+pub returns-clause-written : goal.returns-clause-written
+returns-clause-written c = grind (arith, common_steps)

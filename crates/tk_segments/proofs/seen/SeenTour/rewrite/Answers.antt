@@ -53,3 +53,6 @@ invariant_of-self-2-clause-sizes c =
       ap length (written (goal.at.invariant_of-self-2-clause-sizes c).After-swap) ∙ f.seen ∙ size,
       ap (λ v. length v.items) c.swap.ensures.y_after ∙ f.order ∙ size,
     )
+
+pub returns-clause-list : goal.returns-clause-list
+returns-clause-list c = grind (arith, common_steps)
