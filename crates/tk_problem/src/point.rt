@@ -7,7 +7,7 @@ ghost use Rattle.tk_problem.specs.declared.limits.TheConstants.{COORDINATE_LIMIT
 pub const SCALE: i64 = 1_000_000_000;
 
 /// A point in the plane, in units of 10^-9.
-#[derive(Clone, Copy, Debug, PartialEq, Eq)]
+#[derive(Clone, Copy, PartialEq, Eq)]
 pub struct Point {
     pub x: i64,
     pub y: i64,

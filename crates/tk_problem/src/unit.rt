@@ -9,7 +9,7 @@ use crate::limits::COORDINATE_LIMIT;
 use crate::point::{Point, WholePoint};
 
 /// A unit of coordinates: 1, 0.1, 0.01 or 0.001.
-#[derive(Clone, Copy, Debug, PartialEq, Eq)]
+#[derive(Clone, Copy, PartialEq, Eq)]
 pub enum Unit {
     One,
     Tenth,

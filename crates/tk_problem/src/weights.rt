@@ -5,7 +5,7 @@ ghost use Rattle.tk_problem.specs.WeightWords;
 use crate::points::Points;
 
 /// A distance type of TSPLIB: how distances are computed from coordinates.
-#[derive(Clone, Copy, Debug, PartialEq, Eq)]
+#[derive(Clone, Copy, PartialEq, Eq)]
 pub enum PlaneKind {
     Euc2d,
     Ceil2d,
@@ -39,7 +39,7 @@ impl PlaneKind {
 }
 
 /// A matrix format of TSPLIB: the order in which explicit weights are written.
-#[derive(Clone, Copy, Debug, PartialEq, Eq)]
+#[derive(Clone, Copy, PartialEq, Eq)]
 pub enum Format {
     FullMatrix,
     UpperRow,

@@ -1,9 +1,10 @@
-use Rattle.std.proofs.Common.{All, ◌∙◌, ap, map, set, subst, sym}
+use Rattle.std.proofs.Common.{All, ◌∙◌, ap, map, set, subst, sym, arith}
 use Rattle.std.proofs.lemmas.List.{map-set}
 use Rattle.std.proofs.lemmas.List.Elements.{All-set}
 use Rattle.tk_problem.proofs.Units.{places_in-near}
 use Rattle.tk_problem.specs.Places.{IsNearOrigin}
 use Rattle.tk_problem.specs.Units.{place_in}
+use Rattle.std.proofs.lemmas.Grind.{common_steps}
 use Rattle.tk_problem.proofs.points.put.Goals as goal
 
 pub returns-in-Some-2-clause-places : goal.returns-in-Some-2-clause-places
@@ -20,3 +21,12 @@ pub returns-clause-near : goal.returns-clause-near
 returns-clause-near c =
     All-set IsNearOrigin c.in_ok-fine.fine.items c.args.index c.args.place c.requires.near
     (subst (All IsNearOrigin) (sym c.in_ok-fine.ensures) (places_in-near c.args.unit c.args.places.now))
+
+pub returns-clause-places : goal.returns-clause-places
+returns-clause-places c = grind (arith, common_steps)
+
+pub index_mut-requires : goal.index_mut-requires
+index_mut-requires c = grind (arith, common_steps)
+
+pub index_mut-requires-2 : goal.index_mut-requires-2
+index_mut-requires-2 c = grind (arith, common_steps)
