@@ -14,7 +14,7 @@ use tk_problem::CANDIDATE_LIMIT;
 use tk_words::{integer, spelled};
 
 /// How starting tours are constructed.
-#[derive(Clone, Copy, Debug, PartialEq, Eq)]
+#[derive(Clone, Copy, PartialEq, Eq)]
 pub enum Construction {
     /// By nearest neighbours.
     Nearest,
@@ -23,7 +23,7 @@ pub enum Construction {
 }
 
 /// The setting of a key.
-#[derive(Debug, Drop)]
+#[derive(Drop)]
 pub enum Setting {
     File(String),
     Number(u32),
