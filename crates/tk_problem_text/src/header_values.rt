@@ -7,21 +7,21 @@ use tk_lines::Scan;
 use tk_problem::{FORMATS, Format, PLANE_KINDS, PlaneKind};
 
 /// The types of problems that are supported.
-#[derive(Clone, Copy, Debug, PartialEq, Eq)]
+#[derive(Clone, Copy, PartialEq, Eq)]
 pub enum ProblemType {
     Tsp,
     Cvrp,
 }
 
 /// How distances are given: by coordinates in the plane, or explicitly.
-#[derive(Clone, Copy, Debug, PartialEq, Eq)]
+#[derive(Clone, Copy)]
 pub enum WeightType {
     Plane(PlaneKind),
     Explicit,
 }
 
 /// How explicit weights are given: by a function, or as a list in a format.
-#[derive(Clone, Copy, Debug, PartialEq, Eq)]
+#[derive(Clone, Copy)]
 pub enum WeightFormat {
     Function,
     Listed(Format),

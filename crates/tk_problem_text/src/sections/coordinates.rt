@@ -13,7 +13,7 @@ use tk_problem::{Point, Points};
 use tk_words::{Lexeme, TextKind};
 
 /// The meaning of the next token in a row of coordinates.
-#[derive(Clone, Copy, Debug, PartialEq, Eq)]
+#[derive(Clone, Copy)]
 enum Wanted {
     Node,
     X { index: usize },

@@ -13,7 +13,7 @@ use tk_lines::Taken;
 use tk_words::{Entry, Lexeme, TextKind, limited};
 
 /// DEPOT_SECTION: one node, then -1 or the end of the text.
-#[derive(Clone, Copy, Debug)]
+#[derive(Clone, Copy)]
 pub struct Depot {
     pub size: u32,
     pub node: Option<u32>,
