@@ -58,8 +58,10 @@ pub mod routes {
 /// The program as a library.
 pub mod engines {
     pub use tk_engines::{
-        Construction, Fault, Key, ParamFault, ParamKind, Params, ParamsBuilder, Plotted, Progress,
-        RouteVerdict, TourFault, Unwatched, Verdict, Watch, check_engine, key_of, matrix_engine,
-        near_engine, plot_engine, read_params, route_check_engine, solve_engine,
+        Construction, Fault, FoundRoutes, FoundTour, Key, ParamFault, ParamKind, Params,
+        ParamsBuilder, Plotted, Progress, RouteVerdict, SearchOutcome, TourFault, TourOutcome,
+        Unwatched, Verdict, Watch, check_engine, key_of, matrix_engine, near_engine, plot_engine,
+        read_params, route_check_engine, route_outcome, search_outcome, solve_engine, tour_outcome,
+        write_found, write_route_verdict, write_search_lines, write_tour_outcome,
     };
 }

@@ -1,9 +1,10 @@
 -- How an engine ends, by how it ends once its texts are read.
-use Rattle.std.proofs.Common.{◌≡◌, None, Result, Ok, Err, subst, sym}
+use Rattle.std.proofs.Common.{◌≡◌, None, Result, Ok, Err, refl, subst, sym}
 use Rattle.std.specs.Prelude.{IfErr}
 use Rattle.tk_problem_text.specs.Problem.{ProblemIs}
-use Rattle.tk_engines.specs.Engine.{AreRead, BeforeSecond, EndsByProblem, HasRead, IsGiven, IsMisfit, IsSecondRefused}
-use Rattle.tk_engines.specs.Engine.{Reading, Task, Writing}
+use Rattle.tk_engines.specs.Engine.{AreRead, BeforeSecond, Ends, EndsByProblem, HasRead, IsGiven, IsMisfit}
+use Rattle.tk_engines.specs.Engine.{IsSecondRefused, Reading, Task, Writing, WritesNothing}
+use Rattle.tk_engines.specs.Engine.{written_as}
 use Rattle.tk_engines.specs.declared.fault.Fault.{Fault}
 use Rattle.tk_engines.specs.declared.fault.Fault.TheVariants as faults
 
@@ -88,3 +89,24 @@ second_reached P task Second Writes p fits (Err (faults.NotForType key)) h = cc 
 second_reached P task Second Writes p fits (Err faults.TooLarge) h = cc (fits, h.is_problem, h.misfit)
 second_reached P task Second Writes p fits (Err faults.NoPlaces) h = cc (fits, h.is_problem, h.misfit)
 second_reached P task Second Writes p fits _ h = tt
+
+-- an outcome was found, and then written
+module _ {B O R T : Type 0} (task : Task B O (Unit {0})) (answer_to : O → R) (text_of : O → T)
+    (Problem : Reading ProblemIs) (Second : Reading B) where
+  read_as : (p : ProblemIs) (second : B) → AreRead task Problem Second p second →
+      AreRead (written_as task answer_to text_of) Problem Second p second
+  read_as p second h = record { is_problem = h.is_problem; fits = h.fits; is_second = h.is_second }
+
+  pub given_as : (Written : T → Type 0) (outcome : O) →
+      Ends task Problem Second WritesNothing (Ok outcome) → Written (text_of outcome) →
+      IsGiven (written_as task answer_to text_of) Problem (λ _. Second) Written (answer_to outcome)
+  given_as Written outcome h written =
+      record {
+        problem = h.problem;
+        second = h.second;
+        text = text_of outcome;
+        read = read_as h.problem h.second h.read;
+        together = h.together;
+        gives = (outcome, h.gives, refl, refl);
+        written = written;
+      }

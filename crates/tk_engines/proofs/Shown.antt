@@ -21,7 +21,7 @@ use Rattle.tk_routes.specs.Routes.{AreRoutes}
 use Rattle.tk_routes.specs.declared.claims.verdict.RouteVerdict.{RouteVerdict}
 use Rattle.tk_routes.specs.declared.claims.verdict.RouteVerdict.TheVariants as route_verdicts
 use Rattle.tk_routes.proofs.Filled.{concat-filled}
-use Rattle.tk_engines.specs.Lines.TourLine.{verdict_line}
+use Rattle.tk_engines.specs.Check.{verdict_line}
 use Rattle.tk_engines.specs.ReadProblems.{read_distance}
 use Rattle.tk_engines.specs.Lines.RouteLine.{route_verdict_line}
 use Rattle.tk_tour.proofs.CitiesOfTours.{cities_of_tour}

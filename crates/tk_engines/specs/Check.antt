@@ -1,24 +1,61 @@
 -- The result of a check of a tour.
-use Rattle.std.specs.Prelude.{◌≡◌, ℕ, true, List, None, Result}
+use Rattle.std.specs.Prelude.{◌≡◌, ℕ, ◌-◌, true, List, None, Result, length, slice_index}
 use Rattle.tk_problem_text.specs.Problem.{ProblemIs}
 use Rattle.tk_words.specs.declared.sources.source.Source as sources
 use Rattle.tk_writers.specs.Puts.{Writes}
 use Rattle.tk_writers.specs.declared.output.sink.Sink as sinks
+use Rattle.tk_tour.specs.Tour.{tour_length}
 use Rattle.tk_tour.specs.Verdict.{IsVerdict}
 use Rattle.tk_tour.specs.declared.verdict.Verdict.{Verdict}
-use Rattle.tk_engines.specs.Lines.TourLine.{verdict_line}
-use Rattle.tk_engines.specs.Engine.{Ends, NoClash, ReadsProblem, ReadsTour, Task}
+use Rattle.tk_tour.specs.declared.verdict.Verdict.TheVariants.{Tour, WrongCount, OutOfRange, RepeatedCity}
+use Rattle.tk_engines.specs.Lines.TourLine.{outcome_line}
+use Rattle.tk_engines.specs.Engine.{Ends, NoClash, ReadsProblem, ReadsTour, Task, WritesNothing, written_as}
 use Rattle.tk_engines.specs.ReadProblems.{read_distance}
 use Rattle.tk_engines.specs.declared.fault.Fault.{Fault}
+use Rattle.tk_engines.specs.declared.outcomes.tour.TourOutcome.{TourOutcome}
+use Rattle.tk_engines.specs.declared.outcomes.tour.TourOutcome.TheVariants as outcomes
 
--- the verdict on the list as a tour of the problem, and the line with it
-pub record IsCheck (problem : ProblemIs) (cities : List ℕ) (verdict : Verdict) (text : List ℕ) : Type 0 where
-  pub right : IsVerdict problem.n cities verdict
-  pub line : text ≡ verdict_line problem.n (read_distance problem.weights) cities verdict
+-- the outcome with this verdict on a list that should be a tour of n cities
+abbrev pub outcome_of : ℕ → (ℕ → ℕ → ℕ) → List ℕ → Verdict → TourOutcome
+outcome_of n distance cities Tour = outcomes.Tour n (tour_length distance cities)
+outcome_of n distance cities WrongCount = outcomes.WrongCount n (length cities)
+outcome_of n distance cities (OutOfRange p) = outcomes.OutOfRange p (slice_index cities (p - 1))
+outcome_of n distance cities (RepeatedCity p) = outcomes.RepeatedCity p (slice_index cities (p - 1))
+
+-- the line of the outcome with this verdict
+abbrev pub verdict_line : ℕ → (ℕ → ℕ → ℕ) → List ℕ → Verdict → List ℕ
+verdict_line n distance cities verdict = outcome_line (outcome_of n distance cities verdict)
+
+-- the verdict of an outcome
+abbrev pub verdict_in : TourOutcome → Verdict
+verdict_in (outcomes.Tour cities length) = Tour
+verdict_in (outcomes.WrongCount wanted read) = WrongCount
+verdict_in (outcomes.OutOfRange place city) = OutOfRange place
+verdict_in (outcomes.RepeatedCity place city) = RepeatedCity place
+
+-- the outcome for a list as a tour of the problem: the right verdict, with its numbers
+pub record IsTourOutcome (problem : ProblemIs) (cities : List ℕ) (outcome : TourOutcome) : Type 0 where
+  pub right : IsVerdict problem.n cities (verdict_in outcome)
+  pub numbers : outcome ≡ outcome_of problem.n (read_distance problem.weights) cities (verdict_in outcome)
 
 -- the task of checking a tour, which any problem fits
+abbrev pub tour_outcome_task : Task (List ℕ) TourOutcome (Unit {0})
+tour_outcome_task = record {
+  misfit = λ _. None;
+  IsClash = NoClash;
+  takes_memory = true;
+  Gives = λ problem cities outcome _. IsTourOutcome problem cities outcome;
+}
+
+-- how a check of a tour ends without output, given its two sources before and after it
+abbrev pub FindsTourOutcome : {P T : Type 0} → sources.Ghosts P → sources.Ghosts T → P × T → P × T →
+    Result TourOutcome Fault → Type 0
+FindsTourOutcome problems tours (problem, tour) (problem', tour') =
+    Ends tour_outcome_task (ReadsProblem problems problem problem') (ReadsTour tours tour tour') WritesNothing
+
+-- the task of checking a tour: the verdict is returned, and the line of the outcome is written
 abbrev pub check_task : Task (List ℕ) Verdict (List ℕ)
-check_task = record { misfit = λ _. None; IsClash = NoClash; takes_memory = true; Gives = IsCheck }
+check_task = written_as tour_outcome_task verdict_in outcome_line
 
 -- how a check of a tour ends, given its two sources and its sink before and after it
 abbrev pub ChecksTour : {P T W : Type 0} → sources.Ghosts P → sources.Ghosts T → sinks.Ghosts W → P × T × W →

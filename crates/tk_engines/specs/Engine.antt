@@ -5,6 +5,7 @@
 --     ReadsProblem, ReadsTour, ReadsSolution, NoText      the contents of the text of a source
 --     HasRead value      the contents of a text, once it has been read
 --     Ends task Problem Second Writes result      the stage that was reached, and what is known there
+--     written_as task answer_to text_of      the task whose outcome is written
 --     EndsByProblem      like Ends, but the problem decides how the second text is read
 --     BeforeSecond, UnlessWrite, AtWrite      a fact that is true at some of the stages
 use Rattle.std.specs.Prelude.{◌≡◌, ◌≢◌, ℕ, Bool, true, List, Option, Some, None, Result, Ok, Err}
@@ -42,6 +43,11 @@ Reading V = Result V Fault → Type 0
 -- what is known if a text is written, or if writing it breaks off
 abbrev pub Writing : Type 0 → Type 1
 Writing T = Result (Unit {0}) WriteFault → T → Type 0
+
+-- nothing is written, so no write fails
+abbrev pub WritesNothing : Writing (Unit {0})
+WritesNothing (Ok _) text = Unit {0}
+WritesNothing (Err f) text = ⊥
 
 -- the text of a source was read, or was rejected with a fault that the engine wraps by `wrap`
 abbrev pub Reads : {V S : Type 0} → Texts V TextFault → (TextFault → Fault) → sources.Ghosts S → S → S → Reading V
@@ -88,6 +94,16 @@ pub record Task (B R T : Type 0) : Type 1 where
   pub takes_memory : Bool
   -- the answer, and the output
   pub Gives : ProblemIs → B → R → T → Type 0
+
+-- the task whose outcome is written: this is the answer to an outcome, and this is its text
+abbrev pub written_as : {B O R T : Type 0} → Task B O (Unit {0}) → (O → R) → (O → T) → Task B R T
+written_as {O = O} task answer_to text_of = record {
+  misfit = task.misfit;
+  IsClash = task.IsClash;
+  takes_memory = task.takes_memory;
+  Gives = λ problem second answer text.
+      (outcome : O) × task.Gives problem second outcome tt × (answer ≡ answer_to outcome) × (text ≡ text_of outcome);
+}
 
 -- any second text fits the problem
 abbrev pub NoClash : {B : Type 0} → ProblemIs → B → Option Fault → Type 0

@@ -22,7 +22,7 @@ use Rattle.tk_routes.specs.Instance.{Instance}
 use Rattle.tk_routes.specs.RouteVerdicts.{IsRouteVerdict}
 use Rattle.tk_routes.specs.declared.claims.verdict.RouteVerdict.{RouteVerdict}
 use Rattle.tk_routes.specs.declared.claims.verdict.RouteVerdict.TheVariants as route_verdicts
-use Rattle.tk_engines.specs.Lines.TourLine.{verdict_line}
+use Rattle.tk_engines.specs.Check.{verdict_line}
 use Rattle.tk_engines.specs.ReadProblems.{read_distance}
 use Rattle.tk_engines.specs.Engine.{AtWrite, EndsByProblem, HasRead, IsUnread, IsUnwritten, NoClash, Reading}
 use Rattle.tk_engines.specs.Engine.{ReadsProblem, ReadsSolution, ReadsTour, Task, UnlessWrite, Writing}

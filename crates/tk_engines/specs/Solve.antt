@@ -1,16 +1,18 @@
 -- The input, the search and the output of `solve`.
---     solve_task p Watched      the task of these parameters, whose events satisfy Watched
+--     search_task p Watched      the task of a search with these parameters, whose events satisfy Watched
+--     solve_task p Watched      like search_task, with the output
 --     ReadsInitial given      the initial tour is read if the parameters name one
 --     WritesFiles      `file` is written before `out`
 --     AreUntouched      neither of them has taken a byte
 --     HasFailed      a write to one of them failed
-use Rattle.std.specs.Prelude.{◌≡◌, ℕ, ◌⊎◌, Bool, true, false, List, [], ◌∷◌, length, Option, Some, None, MatchOption}
+use Rattle.std.specs.Prelude.{◌≡◌, ℕ, ◌⊎◌, Bool, true, false, List, [], ◌∷◌, Option, Some, None, IsSomeAnd}
 use Rattle.std.specs.Prelude.{Result, Ok, Err, is_none, is_some, option_map, unwrap_or, if◌then◌else◌}
 use Rattle.std.specs.Int.RustNames.{unsigned_abs}
 use Rattle.tk_problem_text.specs.Problem.{ProblemIs}
 use Rattle.tk_writers.specs.Puts.{Writes}
 use Rattle.tk_writers.specs.SolutionWritten.{solution_text}
 use Rattle.tk_writers.specs.TourWritten.{tour_text}
+use Rattle.tk_lists.specs.Solution.{lists_of}
 use Rattle.tk_lists.specs.declared.texts.TourText.{TourText}
 use Rattle.tk_words.specs.declared.sources.source.Source as sources
 use Rattle.tk_writers.specs.declared.output.sink.Sink as sinks
@@ -24,19 +26,22 @@ use Rattle.tk_params.specs.declared.key.Key.TheVariants as keys
 use Rattle.tk_params.specs.declared.value.Construction.{Construction}
 use Rattle.tk_params.specs.declared.value.Construction.TheVariants.{Nearest, Savings}
 use Rattle.tk_routes.specs.Instance.{Instance}
-use Rattle.tk_routes.specs.declared.solving.route_report.RouteReport.{RouteReport}
 use Rattle.tk_solve.specs.SolvedRoutes.{AreSolved}
 use Rattle.tk_solve.specs.SolvedTours.{IsSolved, IsSound}
 use Rattle.tk_solve.specs.Starts.{Begins, AtNearest, AtSavings, At, TourTask}
 use Rattle.tk_solve.specs.Watching.{WereShown}
-use Rattle.tk_solve.specs.declared.tour.SolvedTour.{SolvedTour}
 use Rattle.tk_solve.specs.declared.watch.Watch as watchers
 use Rattle.tk_solve.specs.Events.{Event, Begun}
 use Rattle.tk_engines.specs.ReadProblems.{read_distance}
 use Rattle.tk_engines.specs.Engine.{Ends, IsUnread, IsUnwritten, Reading, ReadsProblem, ReadsTour, Task}
-use Rattle.tk_engines.specs.Engine.{Writing}
+use Rattle.tk_engines.specs.Engine.{Writing, WritesNothing, written_as}
 use Rattle.tk_engines.specs.ReadProblems.{instance_in}
-use Rattle.tk_engines.specs.Lines.SolveLines.{route_lines, tour_lines}
+use Rattle.tk_engines.specs.Lines.SolveLines.{search_lines}
+use Rattle.tk_engines.specs.declared.outcomes.search.FoundRoutes.{FoundRoutes}
+use Rattle.tk_engines.specs.declared.outcomes.search.FoundTour.{FoundTour}
+use Rattle.tk_engines.specs.declared.outcomes.search.SearchOutcome.{SearchOutcome}
+use Rattle.tk_engines.specs.declared.outcomes.search.SearchOutcome.TheVariants.{Routes}
+use Rattle.tk_engines.specs.declared.outcomes.search.SearchOutcome.TheVariants.{Tour as Found}
 use Rattle.tk_engines.specs.declared.fault.Fault.{Fault}
 use Rattle.tk_engines.specs.declared.fault.Fault.TheVariants.{Initial, NoMemory, NotForType, Write}
 
@@ -103,53 +108,61 @@ tour_task p problem initial =
       rules = record { sweep = p.final_sweep; or_segment = p.or_segment };
     }
 
+-- ---- the outcome
+
+-- for a TSP: the best tour of the runs, with its length, and a report of each run; the name of the problem, followed by
+-- the events of the runs, satisfies Watched
+pub record IsTourFound (p : ParamsAre) (Watched : List Event → Type 0) (problem : ProblemIs)
+    (initial : Option (List ℕ)) (found : FoundTour) : Type 0 where
+  pub name : found.name.items ≡ problem.name
+  pub is : IsSolved (tour_task p problem initial) (λ shown. Watched (Begun problem.name ∷ shown)) found.solved
+  pub sound : IsSound (tour_task p problem initial) found.solved
+
+-- for a CVRP: the improved routes, with their cost, and the report of the improvement
+abbrev pub AreRoutesFound : ParamsAre → Instance → FoundRoutes → Type 0
+AreRoutesFound p i found = AreSolved i p.max_candidates p.or_segment (lists_of found.routes.items) found.report
+
+-- an observer is shown a search for a tour, but nothing of a search for routes
+abbrev pub IsFound : ParamsAre → (List Event → Type 0) → ProblemIs → Option (List ℕ) → SearchOutcome → Type 0
+IsFound p Watched problem initial (Found found) =
+    (problem.routing ≡ None) × IsTourFound p Watched problem initial found
+IsFound p Watched problem initial (Routes found) =
+    IsSomeAnd problem.routing (λ r. AreRoutesFound p (instance_in problem r) found) × Watched []
+
+-- the task of a search with these parameters, whose events satisfy Watched
+abbrev pub search_task : ParamsAre → (List Event → Type 0) → Task (Option (List ℕ)) SearchOutcome (Unit {0})
+search_task p Watched = record {
+  misfit = λ problem. option_map NotForType (unfit_key p problem);
+  IsClash = IsInitial;
+  takes_memory = true;
+  Gives = λ problem initial outcome _. IsFound p Watched problem initial outcome;
+}
+
+-- how a search ends without output, given its two sources and the observer before and after it
+abbrev pub FindsOutcome : {P I V : Type 0} → sources.Ghosts P → sources.Ghosts I → watchers.Ghosts V → ParamsAre →
+    P × I × V → P × I × V → Result SearchOutcome Fault → Type 0
+FindsOutcome problems initials watchers params (problem, initial, watch) (problem', initial', watch') =
+    Ends (search_task params (WereShown watchers.shows watch watch')) (ReadsProblem problems problem problem')
+    (ReadsInitial (is_some params.initial_tour_file) initials initial initial') WritesNothing
+
 -- ---- output
+
+-- the text of the tour or of the solution
+abbrev pub found_text : SearchOutcome → List ℕ
+found_text (Found found) = tour_text found.name.items (unsigned_abs found.solved.length) found.solved.cities.items
+found_text (Routes found) = solution_text (lists_of found.routes.items) (unsigned_abs found.report.after)
 
 -- the text of the tour or of the solution, and the lines on it
 pub record Files : Type 0 where
   pub file : List ℕ
   pub out : List ℕ
 
--- the text of a tour of an instance with this name, and the lines on its runs
-abbrev pub tour_files : ParamsAre → List ℕ → SolvedTour → Files
-tour_files p name solved = record {
-  file = tour_text name (unsigned_abs solved.length) solved.cities.items;
-  out = tour_lines p.ignored solved;
-}
+abbrev pub files_of : ParamsAre → SearchOutcome → Files
+files_of p outcome = record { file = found_text outcome; out = search_lines p.ignored outcome }
 
--- for a TSP: the best tour of the runs, with its length, and a line for each run; the name of the problem, followed by
--- the events of the runs, satisfies Watched
-pub record IsTourWritten (p : ParamsAre) (Watched : List Event → Type 0) (problem : ProblemIs)
-    (initial : Option (List ℕ)) (files : Files) : Type 0 where
-  pub solved : SolvedTour
-  pub is : IsSolved (tour_task p problem initial) (λ shown. Watched (Begun problem.name ∷ shown)) solved
-  pub sound : IsSound (tour_task p problem initial) solved
-  pub written : files ≡ tour_files p problem.name solved
-
--- the text of routes, and the lines on them
-abbrev pub route_files : ParamsAre → List (List ℕ) → RouteReport → Files
-route_files p routes report = record {
-  file = solution_text routes (unsigned_abs report.after);
-  out = route_lines p.ignored (length routes) report;
-}
-
--- for a CVRP: the improved routes, with their cost, and the report of the improvement
-pub record AreRoutesOf (p : ParamsAre) (i : Instance) (files : Files) : Type 0 where
-  pub routes : List (List ℕ)
-  pub report : RouteReport
-  pub are : AreSolved i p.max_candidates p.or_segment routes report
-  pub written : files ≡ route_files p routes report
-
--- the task of these parameters; an observer is shown a search for a tour, but nothing of a search for routes
+-- the task of a search whose outcome is written
 abbrev pub solve_task : ParamsAre → (List Event → Type 0) → Task (Option (List ℕ)) (Unit {0}) Files
-solve_task p Watched =
-    record {
-      misfit = λ problem. option_map NotForType (unfit_key p problem);
-      IsClash = IsInitial;
-      takes_memory = true;
-      Gives = λ problem initial _ files. MatchOption problem.routing (IsTourWritten p Watched problem initial files)
-          (λ r. AreRoutesOf p (instance_in problem r) files × Watched []);
-    }
+solve_task p Watched = written_as (search_task p Watched) (λ _. tt) (files_of p)
 
 -- the two sinks of the files
 module _ {F W : Type 0} (files : sinks.Ghosts F) (outs : sinks.Ghosts W) (file file' : F) (out out' : W) where
@@ -182,10 +195,3 @@ abbrev pub IsInitialRefused : ProblemIs → Option (List ℕ) → Fault → Type
 IsInitialRefused problem initial (Initial f) = IsInitial problem initial (Some (Initial f))
 IsInitialRefused problem initial NoMemory = Unit {0}
 IsInitialRefused problem initial _ = ⊥
-
--- files with the answer were written, or writing them broke off; or memory ran out, and nothing was written
-abbrev pub GivesFiles : (Files → Type 0) → Writing Files → Type 0 → Result (Unit {0}) Fault → Type 0
-GivesFiles Answer Writes Quiet (Ok _) = (files : Files) × (Answer files × Writes (Ok tt) files)
-GivesFiles Answer Writes Quiet (Err (Write f)) = (files : Files) × (Answer files × Writes (Err f) files)
-GivesFiles Answer Writes Quiet (Err NoMemory) = Quiet
-GivesFiles Answer Writes Quiet (Err _) = ⊥

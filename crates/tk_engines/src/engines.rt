@@ -5,5 +5,6 @@ pub mod near;
 pub mod plot;
 pub mod plotted;
 pub mod route_check;
+pub mod search;
+pub mod search_given;
 pub mod solve;
-pub mod solve_given;

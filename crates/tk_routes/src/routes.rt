@@ -22,4 +22,11 @@ impl Routes<'_> {
     {
         &self.lists
     }
+
+    /// The routes, each as the list of its customers.
+    pub fn into_lists(self) -> Vec<Vec<u32>>
+        ensures { map (λ r. r.items) result.items ≡ routes_of self.entry }
+    {
+        self.lists
+    }
 }

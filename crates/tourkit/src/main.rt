@@ -1,7 +1,6 @@
 //! `tourkit`: a command-line toolkit for symmetric travelling salesman and capacitated vehicle routing problems.
 #![tactic(auto)]
 
-mod answer;
 mod best;
 mod best_place;
 mod call;
@@ -10,11 +9,11 @@ mod embedded;
 mod explained_text;
 mod file_id;
 mod input;
-mod json;
-mod json_lines;
 mod judged;
+mod objects;
 mod output;
 mod part;
+mod printed;
 mod progress;
 mod report;
 mod search;

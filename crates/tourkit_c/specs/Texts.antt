@@ -15,10 +15,10 @@ use Rattle.tk_routes.specs.declared.claims.verdict.RouteVerdict.TheVariants as r
 use Rattle.tourkit_c.specs.HandedOut.{handed_out}
 use Rattle.tourkit_c.specs.Outcomes.{with_status, with_status_twice}
 use Rattle.tourkit_c.specs.declared.answer.Answer.{Answer}
-use Rattle.tk_engines.specs.Check.{IsCheck}
+use Rattle.tk_engines.specs.Check.{check_task}
 use Rattle.tk_engines.specs.MatrixOf.{IsMatrixText}
 use Rattle.tk_engines.specs.NearText.{IsNearText}
-use Rattle.tk_engines.specs.RouteCheck.{IsRouteCheck}
+use Rattle.tk_engines.specs.RouteCheck.{route_check_task}
 
 -- the text contains this value
 abbrev pub TextSays : {V E : Type 0} → Texts V E → List ℕ → V → Type 0
@@ -34,7 +34,7 @@ pub record IsCheckOf (problem tour : List ℕ) (verdict : Verdict) (line : List 
   pub cities : List ℕ
   pub is_problem : TextSays problem_texts problem p
   pub is_tour : TextSays tour_texts tour cities
-  pub is : IsCheck p cities verdict line
+  pub is : check_task.Gives p cities verdict line
 
 -- the status of a verdict: 0 for a tour, 1 for a fault
 abbrev pub tour_status : Verdict → ℕ
@@ -51,7 +51,7 @@ pub record IsRouteCheckOf (problem solution : List ℕ) (verdict : RouteVerdict)
   pub claimed : Solution
   pub is_problem : TextSays problem_texts problem p
   pub is_solution : TextSays solution_texts solution claimed
-  pub is : IsRouteCheck p claimed verdict line
+  pub is : route_check_task.Gives p claimed verdict line
 
 -- the text of the near lists of the problem of another text
 pub record IsNearTextOf (k : ℕ) (problem text : List ℕ) : Type 0 where

@@ -17,7 +17,10 @@ use Rattle.tk_solve.specs.SolvedTours.{IsSolved}
 use Rattle.tk_solve.specs.Starts.{TourTask}
 use Rattle.tk_solve.specs.declared.outcome.RunReport.{RunReport}
 use Rattle.tk_solve.specs.declared.tour.SolvedTour.{SolvedTour}
-use Rattle.tk_engines.specs.Lines.SolveLines.{ignored_line, route_lines, run_line, run_lines, tour_lines}
+use Rattle.tk_engines.specs.declared.outcomes.search.SearchOutcome.{SearchOutcome}
+use Rattle.tk_engines.specs.declared.outcomes.search.SearchOutcome.TheVariants.{Routes}
+use Rattle.tk_engines.specs.declared.outcomes.search.SearchOutcome.TheVariants.{Tour as Found}
+use Rattle.tk_engines.specs.Lines.SolveLines.{ignored_line, route_lines, run_line, run_lines, search_lines, tour_lines}
 
 ignored_short : (key : Key) → length (ignored_line key) ≤ 50
 ignored_short key = let a = word_short key in simp length-append (omega arith)
@@ -43,14 +46,14 @@ runs_short number (r ∷ rs) =
 all_ignored_short : (ks : List Key) → length ks ≤ length all_keys → length (flat_map ignored_line ks) ≤ 10000
 all_ignored_short ks few = omega (arith, few, length_flat_map ignored_line 50 ignored_short ks)
 
-pub tour_lines_short : (ks : List Key) (solved : SolvedTour) → length ks ≤ length all_keys →
+tour_lines_short : (ks : List Key) (solved : SolvedTour) → length ks ≤ length all_keys →
     length solved.runs.items ≤ 10000 → length (tour_lines ks solved) ≤ 2 ^ 63
 tour_lines_short ks solved few runs =
     let a = all_ignored_short ks few in let b = runs_short 1 solved.runs.items in
     let c = length_decimal (unsigned_abs solved.length) in
     simp length-append (omega (arith, a, b, c, runs))
 
-pub route_lines_short : (ks : List Key) (routes : ℕ) (r : RouteReport) → length ks ≤ length all_keys →
+route_lines_short : (ks : List Key) (routes : ℕ) (r : RouteReport) → length ks ≤ length all_keys →
     length (route_lines ks routes r) ≤ 2 ^ 63
 route_lines_short ks routes r few =
     let a = all_ignored_short ks few in let b = length_decimal (unsigned_abs r.before) in
@@ -58,6 +61,11 @@ route_lines_short ks routes r few =
     let d = length_decimal (unsigned_abs r.after) in let e = length_decimal r.moves in let f = length_decimal r.tests in
     let h = length_decimal r.swaps in
     simp length-append (omega (arith, a, b, c, d, e, f, h))
+
+pub search_lines_short : (ks : List Key) (o : SearchOutcome) → length ks ≤ length all_keys →
+    length (search_lines ks o) ≤ 2 ^ 63
+search_lines_short ks (Found found) few = tour_lines_short ks found.solved few found.few_runs
+search_lines_short ks (Routes found) few = route_lines_short ks (length found.routes.items) found.report few
 
 -- as many reports as runs
 pub IfOk-count : {E : Type 0} (r : Result SolvedTour E) (task : TourTask) (Watched : List Event → Type 0) (most : ℕ) →

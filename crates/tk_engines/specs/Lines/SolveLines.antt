@@ -8,6 +8,8 @@ use Rattle.tk_params.specs.declared.key.Key.{Key}
 use Rattle.tk_routes.specs.declared.solving.route_report.RouteReport.{RouteReport}
 use Rattle.tk_solve.specs.declared.outcome.RunReport.{RunReport}
 use Rattle.tk_solve.specs.declared.tour.SolvedTour.{SolvedTour}
+use Rattle.tk_engines.specs.declared.outcomes.search.SearchOutcome.{SearchOutcome}
+use Rattle.tk_engines.specs.declared.outcomes.search.SearchOutcome.TheVariants.{Tour, Routes}
 
 -- a key that is read but not used
 abbrev pub ignored_line : Key → List ℕ
@@ -53,3 +55,8 @@ route_lines ignored routes report =
     flat_map ignored_line ignored ++ savings_line (unsigned_abs report.before) routes
     ++ improved_line (unsigned_abs report.after) report.moves report.tests report.swaps
     ++ best_line (unsigned_abs report.after)
+
+-- all lines on the outcome of a search
+abbrev pub search_lines : List Key → SearchOutcome → List ℕ
+search_lines ignored (Tour found) = tour_lines ignored found.solved
+search_lines ignored (Routes found) = route_lines ignored (length found.routes.items) found.report

@@ -1,13 +1,11 @@
--- The line with a verdict on a tour.
-use Rattle.std.specs.Prelude.{ℕ, ◌-◌, List, length, slice_index}
+-- The line with the outcome of the check of a tour.
+use Rattle.std.specs.Prelude.{ℕ, List}
 use Rattle.tk_writers.specs.Written.{tour_line, wrong_count_line, out_of_range_line, repeated_city_line}
-use Rattle.tk_tour.specs.Tour.{tour_length}
-use Rattle.tk_tour.specs.declared.verdict.Verdict.{Verdict}
-use Rattle.tk_tour.specs.declared.verdict.Verdict.TheVariants.{Tour, WrongCount, OutOfRange, RepeatedCity}
+use Rattle.tk_engines.specs.declared.outcomes.tour.TourOutcome.{TourOutcome}
+use Rattle.tk_engines.specs.declared.outcomes.tour.TourOutcome.TheVariants.{Tour, WrongCount, OutOfRange, RepeatedCity}
 
--- the line with a verdict on a list that should be a tour of n cities
-abbrev pub verdict_line : ℕ → (ℕ → ℕ → ℕ) → List ℕ → Verdict → List ℕ
-verdict_line n distance cities Tour = tour_line n (tour_length distance cities)
-verdict_line n distance cities WrongCount = wrong_count_line n (length cities)
-verdict_line n distance cities (OutOfRange p) = out_of_range_line p (slice_index cities (p - 1))
-verdict_line n distance cities (RepeatedCity p) = repeated_city_line p (slice_index cities (p - 1))
+abbrev pub outcome_line : TourOutcome → List ℕ
+outcome_line (Tour cities length) = tour_line cities length
+outcome_line (WrongCount wanted read) = wrong_count_line wanted read
+outcome_line (OutOfRange place city) = out_of_range_line place city
+outcome_line (RepeatedCity place city) = repeated_city_line place city

@@ -1,14 +1,14 @@
 //! The check of a tour.
 ghost use Rattle.std.specs.Prelude.{IfErr};
 ghost use Rattle.tk_problem_text.specs.ProblemOf.{problem_is};
-ghost use Rattle.tk_writers.specs.Puts.{Writes};
 ghost use Rattle.tk_writers.specs.Sinks.{IsBroken};
-ghost use Rattle.tk_engines.specs.Check.{check_task, ChecksTour};
+ghost use Rattle.tk_engines.specs.Check.{tour_outcome_task, ChecksTour, FindsTourOutcome};
 ghost use Rattle.tk_engines.specs.Engine.{Ends, ReadsTour, IsUnread, IsUnwritten, BeforeSecond, UnlessWrite};
-ghost use Rattle.tk_engines.specs.Engine.{AtWrite, HasRead};
+ghost use Rattle.tk_engines.specs.Engine.{AtWrite, HasRead, WritesNothing};
 
 use crate::fault::Fault;
-use crate::lines::tour_line::write_verdict;
+use crate::lines::tour_line::write_tour_outcome;
+use crate::outcomes::tour::TourOutcome;
 use std::alloc::Global;
 use tk_lists::read_tour;
 use tk_problem::Problem;
@@ -17,29 +17,41 @@ use tk_tour::{Verdict, check};
 use tk_words::Source;
 use tk_writers::Sink;
 
-/// Reads a tour, checks it against a problem, and writes the line with the verdict.
-fn check_tour<T: Source, W: Sink>(
+/// Reads a tour, and checks it against a problem.
+fn read_outcome<T: Source>(
     alloc: Global,
     problem: &Problem,
     tour: &mut T,
-    out: &mut W,
-) -> Result<Verdict, Fault>
-    ensures ends { Ends check_task (HasRead (problem_is problem.now)) (ReadsTour T.Source tour.old tour.new)
-        (Writes W.Sink out.old out.new) result }
-    ensures quiet { IfErr result (UnlessWrite (IsUnwritten W.Sink out.old out.new)) }
-    ensures failed { IfErr result (AtWrite (IsBroken W.Sink out.new)) }
+) -> Result<TourOutcome, Fault>
+    ensures ends { Ends tour_outcome_task (HasRead (problem_is problem.now)) (ReadsTour T.Source tour.old tour.new)
+        WritesNothing result }
 {
     let tour = match read_tour(alloc, tour) {
         Ok(tour) => tour,
         Err(fault) => return Err(Fault::Tour(fault)),
     };
     let cities = tour.cities.as_slice();
-    let Ok(verdict) = check(alloc, problem.n, cities) else {
-        return Err(Fault::NoMemory);
-    };
-    match write_verdict(out, problem, cities, verdict) {
-        Ok(()) => Ok(verdict),
-        Err(fault) => Err(Fault::Write(fault)),
+    match check(alloc, problem.n, cities) {
+        Ok(verdict) => Ok(TourOutcome::of(problem, cities, verdict)),
+        Err(_) => Err(Fault::NoMemory),
+    }
+}
+
+/// Checks the tour of one text against the problem of another: the length of the tour, or the first fault of the list.
+///
+/// # Errors
+/// The fault of either text, or `NoMemory` if memory runs out.
+pub fn tour_outcome<P: Source, T: Source>(
+    alloc: Global,
+    problem: &mut P,
+    tour: &mut T,
+) -> Result<TourOutcome, Fault>
+    ensures ends { FindsTourOutcome P.Source T.Source (problem.old, tour.old) (problem.new, tour.new) result }
+    ensures unread { IfErr result (BeforeSecond (IsUnread T.Source tour.old tour.new)) }
+{
+    match read_problem(alloc, problem) {
+        Ok(problem) => read_outcome(alloc, &problem, tour),
+        Err(fault) => Err(Fault::Problem(fault)),
     }
 }
 
@@ -61,8 +73,9 @@ pub fn check_engine<P: Source, T: Source, W: Sink>(
     ensures failed { IfErr result (AtWrite (IsBroken W.Sink out.new)) }
     ensures unread { IfErr result (BeforeSecond (IsUnread T.Source tour.old tour.new)) }
 {
-    match read_problem(alloc, problem) {
-        Ok(problem) => check_tour(alloc, &problem, tour, out),
-        Err(fault) => Err(Fault::Problem(fault)),
+    let outcome = tour_outcome(alloc, problem, tour)?;
+    match write_tour_outcome(out, &outcome) {
+        Ok(()) => Ok(outcome.verdict()),
+        Err(fault) => Err(Fault::Write(fault)),
     }
 }

@@ -19,7 +19,8 @@ ghost use Rattle.tk_engines.specs.Plot.{Plots, PlotsClaim, ReadsClaim, plot_task
 use crate::engines::plotted::Plotted;
 use crate::fault::Fault;
 use crate::lines::route_line::write_route_verdict;
-use crate::lines::tour_line::{length_of, write_verdict};
+use crate::lines::tour_line::{length_of, write_tour_outcome};
+use crate::outcomes::tour::TourOutcome;
 use std::alloc::Global;
 use tk_lists::{SolText, read_solution, read_tour};
 use tk_picture::{Form, Picture, Subject, View, write_picture};
@@ -116,7 +117,7 @@ fn show_tour<W: Sink, T: Sink>(
             let length = length_of(problem, cities);
             draw(out, problem, view, Subject::Tour { cities, length }, form)
         }
-        _ => write_verdict(told, problem, cities, verdict),
+        _ => write_tour_outcome(told, &TourOutcome::of(problem, cities, verdict)),
     }
 }
 

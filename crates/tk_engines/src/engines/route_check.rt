@@ -3,11 +3,10 @@ ghost use Rattle.std.specs.Prelude.{IfErr};
 ghost use Rattle.tk_problem_text.specs.ProblemOf.{problem_is};
 ghost use Rattle.tk_routes.specs.Cvrps.{instance_of};
 ghost use Rattle.tk_routes.specs.Instance.{IsInstanceOf};
-ghost use Rattle.tk_writers.specs.Puts.{Writes};
 ghost use Rattle.tk_writers.specs.Sinks.{IsBroken};
 ghost use Rattle.tk_engines.specs.Engine.{Ends, ReadsSolution, IsUnread, IsUnwritten, BeforeSecond, UnlessWrite};
-ghost use Rattle.tk_engines.specs.Engine.{AtWrite, HasRead};
-ghost use Rattle.tk_engines.specs.RouteCheck.{route_check_task, ChecksRoutes};
+ghost use Rattle.tk_engines.specs.Engine.{AtWrite, HasRead, WritesNothing};
+ghost use Rattle.tk_engines.specs.RouteCheck.{route_outcome_task, ChecksRoutes, FindsRouteOutcome};
 
 use crate::fault::Fault;
 use crate::lines::route_line::write_route_verdict;
@@ -19,50 +18,59 @@ use tk_routes::{Cvrp, RouteVerdict, check_routes};
 use tk_words::Source;
 use tk_writers::Sink;
 
-/// Reads a solution, checks its routes, and writes the line with the verdict.
-fn check_solution<S: Source, W: Sink>(
+/// Reads a solution, and checks its routes.
+fn check_solution<S: Source>(
     alloc: Global,
     problem: &Problem,
     cvrp: &Cvrp<'_>,
     solution: &mut S,
-    out: &mut W,
 ) -> Result<RouteVerdict, Fault>
     requires { IsInstanceOf problem.now (instance_of cvrp.now) }
-    ensures ends { Ends route_check_task (HasRead (problem_is problem.now))
-        (ReadsSolution S.Source solution.old solution.new) (Writes W.Sink out.old out.new) result }
-    ensures quiet { IfErr result (UnlessWrite (IsUnwritten W.Sink out.old out.new)) }
-    ensures failed { IfErr result (AtWrite (IsBroken W.Sink out.new)) }
+    ensures ends { Ends route_outcome_task (HasRead (problem_is problem.now))
+        (ReadsSolution S.Source solution.old solution.new) WritesNothing result }
 {
     let solution = match read_solution(alloc, solution) {
         Ok(solution) => solution,
         Err(fault) => return Err(Fault::Solution(fault)),
     };
-    let Ok(verdict) = check_routes(alloc, cvrp, &solution) else {
-        return Err(Fault::NoMemory);
-    };
-    match write_route_verdict(out, verdict) {
-        Ok(()) => Ok(verdict),
-        Err(fault) => Err(Fault::Write(fault)),
+    match check_routes(alloc, cvrp, &solution) {
+        Ok(verdict) => Ok(verdict),
+        Err(_) => Err(Fault::NoMemory),
     }
 }
 
 /// Like `check_solution`, for any problem; `WrongType` if it has no routing.
-fn check_problem<S: Source, W: Sink>(
+fn check_problem<S: Source>(
     alloc: Global,
     problem: &Problem,
     solution: &mut S,
-    out: &mut W,
 ) -> Result<RouteVerdict, Fault>
-    ensures ends { Ends route_check_task (HasRead (problem_is problem.now))
-        (ReadsSolution S.Source solution.old solution.new) (Writes W.Sink out.old out.new) result }
-    ensures quiet { IfErr result (UnlessWrite (IsUnwritten W.Sink out.old out.new)) }
-    ensures failed { IfErr result (AtWrite (IsBroken W.Sink out.new)) }
+    ensures ends { Ends route_outcome_task (HasRead (problem_is problem.now))
+        (ReadsSolution S.Source solution.old solution.new) WritesNothing result }
     ensures unread { IfErr result (BeforeSecond (IsUnread S.Source solution.old solution.new)) }
 {
     let Some(cvrp) = Cvrp::of(problem) else {
         return Err(Fault::WrongType);
     };
-    check_solution(alloc, problem, &cvrp, solution, out)
+    check_solution(alloc, problem, &cvrp, solution)
+}
+
+/// Checks the routes of one text against the problem of another.
+///
+/// # Errors
+/// The fault of either text, or `NoMemory` if memory runs out; `WrongType` if the problem has no routing.
+pub fn route_outcome<P: Source, S: Source>(
+    alloc: Global,
+    problem: &mut P,
+    solution: &mut S,
+) -> Result<RouteVerdict, Fault>
+    ensures ends { FindsRouteOutcome P.Source S.Source (problem.old, solution.old) (problem.new, solution.new) result }
+    ensures unread { IfErr result (BeforeSecond (IsUnread S.Source solution.old solution.new)) }
+{
+    match read_problem(alloc, problem) {
+        Ok(problem) => check_problem(alloc, &problem, solution),
+        Err(fault) => Err(Fault::Problem(fault)),
+    }
 }
 
 /// Checks the routes of one text against the problem of another, writes the verdict as one line, and returns it.
@@ -83,8 +91,9 @@ pub fn route_check_engine<P: Source, S: Source, W: Sink>(
     ensures failed { IfErr result (AtWrite (IsBroken W.Sink out.new)) }
     ensures unread { IfErr result (BeforeSecond (IsUnread S.Source solution.old solution.new)) }
 {
-    match read_problem(alloc, problem) {
-        Ok(problem) => check_problem(alloc, &problem, solution, out),
-        Err(fault) => Err(Fault::Problem(fault)),
+    let verdict = route_outcome(alloc, problem, solution)?;
+    match write_route_verdict(out, verdict) {
+        Ok(()) => Ok(verdict),
+        Err(fault) => Err(Fault::Write(fault)),
     }
 }

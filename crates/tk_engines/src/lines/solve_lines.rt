@@ -6,9 +6,10 @@ ghost use Rattle.tk_writers.specs.Puts.{Writes};
 ghost use Rattle.tk_writers.specs.Sinks.{IsBroken};
 ghost use Rattle.tk_params.specs.Keys.{all_keys};
 ghost use Rattle.tk_engines.specs.Lines.SolveLines.{best_line, ignored_line, improved_line, route_lines, run_line};
-ghost use Rattle.tk_engines.specs.Lines.SolveLines.{run_lines, savings_line, tour_lines, work_of};
+ghost use Rattle.tk_engines.specs.Lines.SolveLines.{run_lines, savings_line, search_lines, tour_lines, work_of};
 
 use crate::lines::labelled::put_labelled;
+use crate::outcomes::search::SearchOutcome;
 use tk_params::Key;
 use tk_routes::RouteReport;
 use tk_solve::{RunReport, SolvedTour};
@@ -135,34 +136,32 @@ pub fn write_run_line<W: Sink>(
     pen.end()
 }
 
-/// Writes all lines on the runs of a TSP to a sink.
-pub(crate) fn write_tour_lines<W: Sink>(
-    out: &mut W,
-    ignored: &[Key],
-    solved: &SolvedTour,
-) -> Result<(), WriteFault>
-    requires ignored { length ignored.now ≤ length all_keys }
-    requires runs { length solved.now.runs.items ≤ 10000 }
-    ensures text { Writes W.Sink out.old out.new result (tour_lines ignored.now solved.now) }
-    ensures failed { OnErr result (IsBroken W.Sink out.new) }
+/// Writes all lines on the outcome of a search to a pen.
+fn put_search_lines<W: Sink>(pen: &mut Pen<'_, W>, ignored: &[Key], outcome: &SearchOutcome)
+    ensures { Puts W.Sink pen.old pen.new (search_lines ignored.now outcome.now) }
 {
-    let mut pen = Pen::new(out);
-    put_tour_lines(&mut pen, ignored, solved);
-    pen.end()
+    match outcome {
+        SearchOutcome::Tour(found) => put_tour_lines(pen, ignored, &found.solved),
+        SearchOutcome::Routes(found) => {
+            put_route_lines(pen, ignored, found.routes.len() as u64, &found.report);
+        }
+    }
 }
 
-/// Writes all lines on the routes of a CVRP to a sink; `routes` is their number.
-pub(crate) fn write_route_lines<W: Sink>(
+/// Writes all lines on the outcome of a search to a sink, first those of the keys that are not used.
+///
+/// # Errors
+/// A write failed; the fault contains the number of bytes that were written.
+pub fn write_search_lines<W: Sink>(
     out: &mut W,
     ignored: &[Key],
-    routes: u64,
-    report: &RouteReport,
+    outcome: &SearchOutcome,
 ) -> Result<(), WriteFault>
-    requires ignored { length ignored.now ≤ length all_keys }
-    ensures text { Writes W.Sink out.old out.new result (route_lines ignored.now routes report.now) }
+    requires { length ignored.now ≤ length all_keys }
+    ensures text { Writes W.Sink out.old out.new result (search_lines ignored.now outcome.now) }
     ensures failed { OnErr result (IsBroken W.Sink out.new) }
 {
     let mut pen = Pen::new(out);
-    put_route_lines(&mut pen, ignored, routes, report);
+    put_search_lines(&mut pen, ignored, outcome);
     pen.end()
 }

@@ -1,7 +1,7 @@
 //! The engine of `check`.
 use crate::engines::given::{AT_THE_TYPE, SQUARE, TOUR, UNSUPPORTED, expect};
 use std::alloc::Global;
-use tk_engines::{Fault, check_engine};
+use tk_engines::{Fault, TourOutcome, check_engine, tour_outcome};
 use tk_text::{FromRead, ToWrite};
 use tk_tour::Verdict;
 
@@ -35,4 +35,21 @@ fn writes_nothing_on_a_faulty_text(rt: HostRuntime) {
     );
     let tour = Err(Fault::Tour(AT_THE_TYPE));
     expect(&rt, checked(rt.alloc(), SQUARE, UNSUPPORTED), tour, b"");
+}
+
+/// The outcome of the check of a list of cities of the square.
+fn outcome_of(alloc: Global, tour: &[u8]) -> Result<TourOutcome, Fault> {
+    let mut problem = FromRead::new(SQUARE);
+    tour_outcome(alloc, &mut problem, &mut FromRead::new(tour))
+}
+
+#[test]
+fn finds_the_numbers_of_a_verdict(rt: HostRuntime) {
+    let tour = TourOutcome::Tour {
+        cities: 4,
+        length: 48,
+    };
+    assert!(rt; outcome_of(rt.alloc(), TOUR) == Ok(tour));
+    let short = TourOutcome::WrongCount { wanted: 4, read: 1 };
+    assert!(rt; outcome_of(rt.alloc(), b"TYPE : TOUR\nTOUR_SECTION\n3 -1\n") == Ok(short));
 }

@@ -2,7 +2,10 @@
 use crate::engines::given::{BAKERY, SQUARE, TOUR, UNSUPPORTED};
 use std::alloc::Global;
 use std::process::Abort;
-use tk_engines::{Fault, Key, Params, Unwatched, read_params, solve_engine};
+use tk_engines::{
+    Fault, Key, Params, SearchOutcome, Unwatched, read_params, search_outcome, solve_engine,
+    write_found,
+};
 use tk_text::{FromRead, Sink, ToWrite, WriteFault};
 use tk_tour::TourFault;
 
@@ -122,4 +125,33 @@ fn writes_the_tour_first(rt: HostRuntime) {
     let answer = solve(rt.alloc(), &params, SQUARE, b"", &mut file, &mut out);
     assert!(rt; answer == Err(Fault::Write(WriteFault { written: 8 })));
     assert!(rt; file.failed() && out.inner.is_empty());
+}
+
+/// The outcome of the search for routes of the bakery.
+fn bakery_outcome(rt: &impl Abort, alloc: Global) -> SearchOutcome {
+    let params = params_of(rt, alloc, b"PROBLEM_FILE = p\n");
+    let mut problem = FromRead::new(BAKERY);
+    let mut initial = FromRead::new(b"".as_slice());
+    search_outcome(alloc, &params, &mut problem, &mut initial, &mut Unwatched).expect(
+        rt,
+        "an outcome",
+    )
+}
+
+/// The costs of routes before and after their improvement; 0 for a tour.
+fn costs_in(outcome: &SearchOutcome) -> [i64; 2] {
+    match outcome {
+        SearchOutcome::Routes(found) => [found.report.before, found.report.after],
+        SearchOutcome::Tour(_) => [0, 0],
+    }
+}
+
+/// The outcome of a search has the numbers that the lines contain, and its text is that of the file.
+#[test]
+fn finds_routes(rt: HostRuntime) {
+    let outcome = bakery_outcome(&rt, rt.alloc());
+    let mut file = ToWrite::new(Vec::new(rt.alloc()));
+    assert!(rt; write_found(&mut file, &outcome).is_ok());
+    assert!(rt; file.inner.as_slice() == b"Route #1: 3 2 1 4\nCost 53\n".as_slice());
+    assert!(rt; costs_in(&outcome) == [60, 53]);
 }

@@ -1,9 +1,10 @@
 //! The subcommand `check`.
-use crate::answer::Answer;
 use crate::input::open_two;
-use crate::report::FOUND;
+use crate::objects::{invalid, tour_object, valid};
+use crate::printed::{Unprinted, end, print_json};
+use crate::report::{self, FOUND};
 use std::process::ExitCode;
-use tk_engines::check_engine;
+use tk_engines::{TourOutcome, tour_outcome, write_tour_outcome};
 use tk_tour::Verdict;
 use tk_words::FromRead;
 use tk_writers::ToWrite;
@@ -20,11 +21,21 @@ pub fn check_command(
         Err(status) => return status,
     };
     let mut problem = FromRead::new(problem);
-    let mut tour = FromRead::new(tour);
-    let mut out = ToWrite::new(Answer::new(rt, json));
-    match check_engine(rt.alloc(), &mut problem, &mut tour, &mut out) {
-        Ok(verdict) => out.inner.end(rt, status_of(verdict)),
-        Err(fault) => out.inner.stopped(rt, problem_file, tour_file, &fault),
+    match tour_outcome(rt.alloc(), &mut problem, &mut FromRead::new(tour)) {
+        Ok(outcome) => end(rt, print(rt, outcome, json), status_of(outcome.verdict())),
+        Err(fault) => report::stopped_by_claim(rt, problem_file, tour_file, &fault),
+    }
+}
+
+/// Prints the outcome, as a line or as JSON.
+fn print(rt: &HostRuntime, outcome: TourOutcome, json: bool) -> Result<(), Unprinted> {
+    if !json {
+        write_tour_outcome(&mut ToWrite::new(rt.stdout()), &outcome)?;
+        return Ok(());
+    }
+    match tour_object(outcome) {
+        Ok(values) => print_json(rt, &valid(values)),
+        Err(fault) => print_json(rt, &invalid(fault)),
     }
 }
 

@@ -1,9 +1,10 @@
 //! The subcommand `checksol`.
-use crate::answer::Answer;
 use crate::input::open_two;
-use crate::report::FOUND;
+use crate::objects::{invalid, route_object, valid};
+use crate::printed::{Unprinted, end, print_json};
+use crate::report::{self, FOUND};
 use std::process::ExitCode;
-use tk_engines::route_check_engine;
+use tk_engines::{route_outcome, write_route_verdict};
 use tk_routes::RouteVerdict;
 use tk_words::FromRead;
 use tk_writers::ToWrite;
@@ -20,11 +21,21 @@ pub fn checksol_command(
         Err(status) => return status,
     };
     let mut problem = FromRead::new(problem);
-    let mut solution = FromRead::new(solution);
-    let mut out = ToWrite::new(Answer::new(rt, json));
-    match route_check_engine(rt.alloc(), &mut problem, &mut solution, &mut out) {
-        Ok(verdict) => out.inner.end(rt, status_of(verdict)),
-        Err(fault) => out.inner.stopped(rt, problem_file, solution_file, &fault),
+    match route_outcome(rt.alloc(), &mut problem, &mut FromRead::new(solution)) {
+        Ok(verdict) => end(rt, print(rt, verdict, json), status_of(verdict)),
+        Err(fault) => report::stopped_by_claim(rt, problem_file, solution_file, &fault),
+    }
+}
+
+/// Prints the verdict, as a line or as JSON.
+fn print(rt: &HostRuntime, verdict: RouteVerdict, json: bool) -> Result<(), Unprinted> {
+    if !json {
+        write_route_verdict(&mut ToWrite::new(rt.stdout()), verdict)?;
+        return Ok(());
+    }
+    match route_object(verdict) {
+        Ok(values) => print_json(rt, &valid(values)),
+        Err(fault) => print_json(rt, &invalid(fault)),
     }
 }
 

@@ -1,9 +1,10 @@
 //! The subcommand `solve`.
-use crate::answer::{Answer, Unprinted};
 use crate::commands::solve_options::{is_parameter_file, is_problem_file, params_of};
 use crate::file_id::FileId;
 use crate::input::open;
+use crate::objects::{RouteSearchObject, TourSearchObject};
 use crate::output::save;
+use crate::printed::{Unprinted, print_json};
 use crate::report;
 use crate::search::Search;
 use crate::watching::SearchWatch;
@@ -11,10 +12,10 @@ use crate::written::{Kept, check_written, note_slips};
 use std::io::IsTerminal;
 use std::process::ExitCode;
 use tk_command_line::{STANDARD, SearchOptions, Shown};
-use tk_engines::{Fault, solve_engine};
-use tk_params::{ParamFault, ParamKind, read_params};
+use tk_engines::{Fault, SearchOutcome, search_outcome, write_found, write_search_lines};
+use tk_params::{ParamFault, ParamKind, Params, read_params};
 use tk_words::{FromRead, Source, TextKind};
-use tk_writers::{Sink, ToWrite};
+use tk_writers::ToWrite;
 
 /// `solve PARAMETERS`, or with options `solve PROBLEM`.
 pub fn solve_command<'a>(
@@ -113,7 +114,7 @@ fn solve(
     }
 }
 
-/// Runs the search, after setting up its observer and its output.
+/// Runs the search, after setting up its observer.
 fn begin<P: Source, I: Source>(
     rt: &HostRuntime,
     search: &Search<'_, '_>,
@@ -125,78 +126,67 @@ fn begin<P: Source, I: Source>(
     let Ok(mut watch) = SearchWatch::new(rt, search, kept, shown.progress) else {
         return report::no_memory(rt);
     };
-    let mut out = ToWrite::new(Answer::new(rt, shown.json));
-    run(rt, search, kept, problem, initial, &mut out, &mut watch)
-}
-
-/// Searches, and writes the result or reports why there is none. The text for the output file is first kept in memory.
-fn run<P: Source, I: Source>(
-    rt: &HostRuntime,
-    search: &Search<'_, '_>,
-    kept: Kept,
-    problem: &mut P,
-    initial: &mut I,
-    out: &mut ToWrite<Answer>,
-    watch: &mut SearchWatch<'_>,
-) -> ExitCode {
-    let mut file = ToWrite::new(Vec::new(rt.alloc()));
-    match solve_engine(
-        rt.alloc(),
-        search.params,
-        problem,
-        initial,
-        &mut file,
-        out,
-        watch,
-    ) {
-        Ok(()) => print_found(rt, search, &out.inner, &file.inner, watch),
-        Err(Fault::Write(_)) => unwritten(rt, &file, &out.inner, watch),
+    match search_outcome(rt.alloc(), search.params, problem, initial, &mut watch) {
+        Ok(outcome) => finish(rt, search, &outcome, shown.json, &mut watch),
         Err(fault) => stopped(rt, search, kept, &fault),
     }
 }
 
-/// Reports that the lines or the text for the file could not be written. The text is in memory, so a write to it fails
-/// only if memory runs out.
-fn unwritten(
+/// Prints the outcome of a search, and saves the tour or the routes. The text for the output file is first written to
+/// memory.
+fn finish(
     rt: &HostRuntime,
-    file: &ToWrite<Vec<u8>>,
-    answer: &Answer,
+    search: &Search<'_, '_>,
+    outcome: &SearchOutcome,
+    json: bool,
     watch: &mut SearchWatch<'_>,
 ) -> ExitCode {
-    if file.failed() {
+    let mut file = ToWrite::new(Vec::new(rt.alloc()));
+    if write_found(&mut file, outcome).is_err() {
         return report::no_memory(rt);
     }
-    unprinted(rt, answer.unwritten(), &file.inner, watch)
+    match print(rt, search.params, outcome, json) {
+        Ok(()) => save_found(rt, search, &file.inner, watch),
+        Err(reason) => unprinted(rt, reason, &file.inner, watch),
+    }
 }
 
-/// Reports that the output could not be printed. If a write to standard output failed, the result is kept next to the
+/// Prints the outcome of a search, as lines or as JSON.
+fn print(
+    rt: &HostRuntime,
+    params: &Params,
+    outcome: &SearchOutcome,
+    json: bool,
+) -> Result<(), Unprinted> {
+    let ignored = params.ignored();
+    if !json {
+        write_search_lines(&mut ToWrite::new(rt.stdout()), ignored, outcome)?;
+        return Ok(());
+    }
+    match outcome {
+        SearchOutcome::Tour(found) => {
+            print_json(rt, &TourSearchObject::of(rt.alloc(), ignored, found)?)
+        }
+        SearchOutcome::Routes(found) => {
+            print_json(rt, &RouteSearchObject::of(rt.alloc(), ignored, found)?)
+        }
+    }
+}
+
+/// Reports that the outcome could not be printed. If a write to standard output failed, the result is kept next to the
 /// output file.
 fn unprinted(
     rt: &HostRuntime,
-    unprinted: Unprinted,
+    reason: Unprinted,
     text: &[u8],
     watch: &mut SearchWatch<'_>,
 ) -> ExitCode {
-    if unprinted == Unprinted::NoMemory {
+    if reason == Unprinted::NoMemory {
         return report::no_memory(rt);
     }
     match watch.keep_result(text) {
         Some(name) => report::write_fault_but_kept(rt, name),
         None => report::write_fault(rt),
-    }
-}
-
-/// Prints the output, and writes the text to the output file.
-fn print_found(
-    rt: &HostRuntime,
-    search: &Search<'_, '_>,
-    answer: &Answer,
-    text: &[u8],
-    watch: &mut SearchWatch<'_>,
-) -> ExitCode {
-    match answer.try_print(rt) {
-        Ok(()) => save_found(rt, search, text, watch),
-        Err(reason) => unprinted(rt, reason, text, watch),
     }
 }
 

@@ -20,4 +20,4 @@ returns-in-Tour-clause-text g c =
 pub returns-in_default-clause-text : goal.returns-in_default-clause-text
 returns-in_default-clause-text g c =
     let told = tour_told c.args.form.now c.args.problem.now c.args.cities.now c.args.verdict c.in_default.not-Tour in
-    (Refused _, (told, ((refl, refl), c.write_verdict.ensures.text)))
+    (Refused _, (told, ((refl, refl), rw c.of.ensures at c.write_tour_outcome.ensures.text)))

@@ -1,9 +1,9 @@
-use Rattle.tk_writers.specs.Puts.{Writes}
+use Rattle.tk_engines.specs.Engine.{WritesNothing}
 use Rattle.tk_engines.proofs.Ends.{second_reached}
 use Rattle.tk_engines.proofs.RouteChecks.{routing_fits}
 use Rattle.tk_engines.proofs.engines.route_check.check_problem.Goals as goal
 
 pub returns-clause-unread : goal.returns-clause-unread
 returns-clause-unread g c =
-    second_reached _ _ _ (Writes g.W.Sink c.args.out.now c.check_solution.new.out) _
-    (routing_fits c.args.problem.now _ c.in-Some.ensures.some) c.check_solution.result c.check_solution.ensures.ends
+    second_reached _ _ _ WritesNothing _ (routing_fits c.args.problem.now _ c.in-Some.ensures.some)
+    c.check_solution.result c.check_solution.ensures.ends

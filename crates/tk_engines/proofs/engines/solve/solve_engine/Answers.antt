@@ -1,9 +1,15 @@
-use Rattle.tk_engines.specs.Solve.{WritesFiles}
-use Rattle.tk_engines.proofs.Ends.{problem_read}
-use Rattle.tk_engines.proofs.TextsRead.{is_read}
+use Rattle.tk_engines.specs.Solve.{files_of, search_task}
+use Rattle.tk_engines.proofs.Ends.{given_as}
 use Rattle.tk_engines.proofs.engines.solve.solve_engine.Goals as goal
 
 pub returns-in-Ok-clause-ends : goal.returns-in-Ok-clause-ends
 returns-in-Ok-clause-ends g c =
-    problem_read _ _ _ (WritesFiles g.F.Sink g.W.Sink c.args.file.now c.solve_problem.new.file c.args.out.now
-    c.solve_problem.new.out) _ (is_read c.in-Ok.ensures.reads) c.solve_problem.result c.solve_problem.ensures.ends
+    given_as (search_task c.args.params.now _) (λ _. tt) (files_of c.args.params.now) _ _ _ c.in_ok-outcome.outcome
+    c.in_ok-outcome.ensures.ends (rw c.in-Ok.is at c.write_files.ensures.text)
+
+pub returns-clause-ends : goal.returns-clause-ends
+returns-clause-ends g c = (
+  tt,
+  given_as (search_task c.args.params.now _) (λ _. tt) (files_of c.args.params.now) _ _ _ c.in_ok-outcome.outcome
+      c.in_ok-outcome.ensures.ends (rw c.in-Err.is at c.write_files.ensures.text),
+)

@@ -1,0 +1,19 @@
+use Rattle.std.proofs.Common.{refl}
+use Rattle.tk_problem_text.specs.ProblemOf.{problem_is}
+use Rattle.tk_engines.proofs.Lengths.{outcome_right}
+use Rattle.tk_engines.proofs.TextsRead.{is_read}
+use Rattle.tk_engines.proofs.engines.check.read_outcome.Goals as goal
+
+pub returns-in-Ok-check : goal.returns-in-Ok-check
+returns-in-Ok-check g c = record {
+  ends = record {
+    problem = problem_is c.args.problem.now;
+    second = c.in-Ok.tour.cities.items;
+    text = tt;
+    read = record { is_problem = refl; fits = refl; is_second = is_read c.in-Ok.ensures.reads };
+    together = refl;
+    gives = rw c.of.ensures (outcome_right c.args.problem.now _ _ c.in-Ok-check.verdict c.as_slice-cities.ensures.value
+        c.in-Ok-check.ensures);
+    written = tt;
+  };
+}

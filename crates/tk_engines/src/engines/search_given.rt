@@ -1,0 +1,115 @@
+//! The input of a search: a test that its keys apply to the problem, the initial tour, and the options of the search.
+ghost use Rattle.std.specs.Prelude.{◌≡◌, IfOk, IfErr, OnOk, Ok, Err, Some, None, MatchOption};
+ghost use Rattle.std.specs.Prelude.{is_some};
+ghost use Rattle.tk_problem_text.specs.ProblemOf.{problem_is, weights_are};
+ghost use Rattle.tk_tour.specs.Tour.{IsTour};
+ghost use Rattle.tk_solve.specs.Starts.{task_over};
+ghost use Rattle.tk_engines.specs.ReadProblems.{read_distance};
+ghost use Rattle.tk_engines.specs.Solve.{IsInitial, IsInitialRefused, ReadsInitial, cities_in, tour_task, unfit_key};
+
+use crate::fault::Fault;
+use std::alloc::Global;
+use tk_lists::{TourText, read_tour};
+use tk_params::{Construction, Key, Params};
+use tk_problem::Problem;
+use tk_search::SearchRules;
+use tk_solve::{Start, TourOptions};
+use tk_tour::{TourFault, Verdict, check};
+use tk_words::Source;
+
+/// The first key that does not apply to a problem of this type, if there is one.
+pub(crate) fn unfit(params: &Params, problem: &Problem) -> Option<Key>
+    ensures { result ≡ unfit_key params.now (problem_is problem.now) }
+{
+    if problem.routing.is_none() {
+        if params.solution_file().is_some() {
+            return Some(Key::SolutionFile);
+        }
+        return None;
+    }
+    if params.tour_file().is_some() {
+        return Some(Key::TourFile);
+    }
+    if params.initial_tour_file().is_some() {
+        return Some(Key::InitialTourFile);
+    }
+    None
+}
+
+/// The initial tour, if the parameters name one; otherwise its source is not read.
+pub(crate) fn read_initial<I: Source>(
+    alloc: Global,
+    params: &Params,
+    initial: &mut I,
+) -> Result<Option<TourText>, Fault>
+    ensures ok { IfOk result (λ tour. ReadsInitial
+        (is_some params.now.initial_tour_file) I.Source initial.old initial.new (Ok (cities_in tour))) }
+    ensures err { IfErr result
+        (λ f. ReadsInitial (is_some params.now.initial_tour_file) I.Source initial.old initial.new (Err f)) }
+{
+    if params.initial_tour_file().is_none() {
+        return Ok(None);
+    }
+    match read_tour(alloc, initial) {
+        Ok(tour) => Ok(Some(tour)),
+        Err(fault) => Err(Fault::Tour(fault)),
+    }
+}
+
+/// Checks that the initial tour is a tour of the problem's cities.
+fn check_cities(alloc: Global, problem: &Problem, cities: &[u32]) -> Result<(), Fault>
+    ensures ok { OnOk result (IsTour problem.now.n cities.now) }
+    ensures is { OnOk result (IsInitial (problem_is problem.now) (Some cities.now) None) }
+    ensures err { IfErr result (IsInitialRefused (problem_is problem.now) (Some cities.now)) }
+{
+    match check(alloc, problem.n, cities) {
+        Ok(Verdict::Tour) => Ok(()),
+        Ok(Verdict::WrongCount) => Err(Fault::Initial(TourFault::WrongCount)),
+        Ok(Verdict::OutOfRange(place)) => Err(Fault::Initial(TourFault::OutOfRange(place))),
+        Ok(Verdict::RepeatedCity(place)) => Err(Fault::Initial(TourFault::RepeatedCity(place))),
+        Err(_) => Err(Fault::NoMemory),
+    }
+}
+
+/// Like `check_cities`, for an initial tour that might be missing.
+pub(crate) fn check_initial(
+    alloc: Global,
+    problem: &Problem,
+    initial: &Option<TourText>,
+) -> Result<(), Fault>
+    ensures ok { OnOk result (MatchOption (cities_in initial.now) (Unit {0}) (IsTour problem.now.n)) }
+    ensures is { OnOk result (IsInitial (problem_is problem.now) (cities_in initial.now) None) }
+    ensures err { IfErr result (IsInitialRefused (problem_is problem.now) (cities_in initial.now)) }
+{
+    match initial {
+        Some(tour) => check_cities(alloc, problem, &tour.cities),
+        None => Ok(()),
+    }
+}
+
+/// The options of a search for a tour of the problem's cities, as the parameters specify them.
+pub(crate) fn options_of<'a>(
+    params: &Params,
+    problem: &Problem,
+    initial: &'a Option<TourText>,
+) -> TourOptions<'a>
+    ensures { task_over problem.now.n (read_distance (weights_are problem.now.weights)) result
+        ≡ tour_task params.now (problem_is problem.now) (cities_in initial.now) }
+{
+    let start = match (initial, params.construction()) {
+        (Some(tour), _) => Start::Tour(&tour.cities),
+        (None, Construction::Nearest) => Start::Nearest,
+        (None, Construction::Savings) => Start::Savings,
+    };
+    TourOptions {
+        start,
+        runs: params.runs(),
+        trials: params.max_trials().unwrap_or(problem.n),
+        seed: params.seed(),
+        candidates: params.max_candidates(),
+        rules: SearchRules {
+            sweep: params.final_sweep(),
+            or_segment: params.or_segment(),
+        },
+    }
+}

@@ -1,0 +1,3 @@
+//! What engines find, as values: the lines and the files are written from them.
+pub mod search;
+pub mod tour;

@@ -1,0 +1,188 @@
+//! Results as JSON objects. The members are described in docs/OUTPUT.md.
+use serde::Serialize;
+use std::alloc::{AllocError, Global};
+use tk_engines::{FoundRoutes, FoundTour, Key, RouteVerdict, RunReport, TourOutcome};
+
+/// The verdict on a tour or a solution: whether it has no fault, and its values or those of its fault.
+#[derive(Drop, Serialize)]
+pub struct Judgement<T> {
+    valid: bool,
+    #[serde(flatten)]
+    values: T,
+}
+
+/// The values of a tour.
+#[derive(Drop, Serialize)]
+pub struct TourValues {
+    cities: u32,
+    length: u64,
+}
+
+/// The values of valid routes.
+#[derive(Drop, Serialize)]
+pub struct RouteValues {
+    routes: u64,
+    cost: i64,
+}
+
+/// A fault of a tour or a solution. The name of the variant is the member `fault`.
+#[derive(Drop, Serialize)]
+#[serde(tag = "fault")]
+pub enum ListFault {
+    WrongCount { wanted: u32, read: u64 },
+    OutOfRange { place: u32, city: u32 },
+    RepeatedCity { place: u32, city: u32 },
+    BadCustomer { route: u64, customer: u32 },
+    ServedTwice { customer: u32 },
+    OverCapacity { route: u64, load: u64 },
+    NotServed { customer: u32 },
+    WrongCost { read: i64, counted: i64 },
+}
+
+/// The values or the fault of a list that should be a tour.
+pub fn tour_object(outcome: TourOutcome) -> Result<TourValues, ListFault> {
+    match outcome {
+        TourOutcome::Tour { cities, length } => Ok(TourValues { cities, length }),
+        TourOutcome::WrongCount { wanted, read } => Err(ListFault::WrongCount { wanted, read }),
+        TourOutcome::OutOfRange { place, city } => Err(ListFault::OutOfRange { place, city }),
+        TourOutcome::RepeatedCity { place, city } => Err(ListFault::RepeatedCity { place, city }),
+    }
+}
+
+/// The values or the fault of a solution.
+pub fn route_object(verdict: RouteVerdict) -> Result<RouteValues, ListFault> {
+    match verdict {
+        RouteVerdict::Valid { routes, cost } => Ok(RouteValues { routes, cost }),
+        RouteVerdict::BadCustomer(route, customer) => Err(ListFault::BadCustomer {
+            route,
+            customer,
+        }),
+        RouteVerdict::ServedTwice(customer) => Err(ListFault::ServedTwice { customer }),
+        RouteVerdict::OverCapacity(route, load) => Err(ListFault::OverCapacity { route, load }),
+        RouteVerdict::NotServed(customer) => Err(ListFault::NotServed { customer }),
+        RouteVerdict::WrongCost(read, counted) => Err(ListFault::WrongCost { read, counted }),
+    }
+}
+
+/// An object for a list without a fault.
+pub fn valid<T>(values: T) -> Judgement<T> {
+    Judgement {
+        valid: true,
+        values,
+    }
+}
+
+/// An object for a list with a fault.
+pub fn invalid(fault: ListFault) -> Judgement<ListFault> {
+    Judgement {
+        valid: false,
+        values: fault,
+    }
+}
+
+/// A run of a search for a tour.
+#[derive(Drop, Serialize)]
+pub struct RunObject {
+    run: u64,
+    start: i64,
+    best: i64,
+    trials: u128,
+    moves: u128,
+    tests: u128,
+    swaps: u128,
+}
+
+/// The outcome of a search for a tour.
+#[derive(Drop, Serialize)]
+pub struct TourSearchObject {
+    ignored: Vec<&'static str>,
+    runs: Vec<RunObject>,
+    best: i64,
+}
+
+impl TourSearchObject {
+    /// An object for what was found, and the keys that were not used.
+    ///
+    /// # Errors
+    /// `AllocError` if memory runs out.
+    pub fn of(
+        alloc: Global,
+        ignored: &[Key],
+        found: &FoundTour,
+    ) -> Result<TourSearchObject, AllocError> {
+        Ok(TourSearchObject {
+            ignored: words_of(alloc, ignored)?,
+            runs: runs_of(alloc, &found.solved.runs)?,
+            best: found.solved.length,
+        })
+    }
+}
+
+/// The outcome of a search for routes.
+#[derive(Drop, Serialize)]
+pub struct RouteSearchObject {
+    ignored: Vec<&'static str>,
+    savings: i64,
+    routes: u64,
+    improved: i64,
+    moves: u64,
+    tests: u64,
+    swaps: u64,
+    best: i64,
+}
+
+impl RouteSearchObject {
+    /// An object for what was found, and the keys that were not used.
+    ///
+    /// # Errors
+    /// `AllocError` if memory runs out.
+    pub fn of(
+        alloc: Global,
+        ignored: &[Key],
+        found: &FoundRoutes,
+    ) -> Result<RouteSearchObject, AllocError> {
+        let report = &found.report;
+        Ok(RouteSearchObject {
+            ignored: words_of(alloc, ignored)?,
+            savings: report.before,
+            routes: found.routes.len() as u64,
+            improved: report.after,
+            moves: report.moves,
+            tests: report.tests,
+            swaps: report.swaps,
+            best: report.after,
+        })
+    }
+}
+
+/// The names of keys.
+fn words_of(alloc: Global, keys: &[Key]) -> Result<Vec<&'static str>, AllocError> {
+    let mut words = Vec::new(alloc);
+    for key in keys {
+        words.push(key.word())?;
+    }
+    Ok(words)
+}
+
+/// The objects of runs, which are numbered from 1.
+fn runs_of(alloc: Global, reports: &[RunReport]) -> Result<Vec<RunObject>, AllocError> {
+    let mut runs = Vec::new(alloc);
+    for i in 0..reports.len() {
+        runs.push(run_object(i as u64 + 1, &reports[i]))?;
+    }
+    Ok(runs)
+}
+
+/// The object of a run.
+fn run_object(run: u64, report: &RunReport) -> RunObject {
+    let totals = &report.totals;
+    RunObject {
+        run,
+        start: totals.start,
+        best: report.best,
+        trials: totals.trials,
+        moves: totals.moves,
+        tests: totals.tests,
+        swaps: totals.swaps,
+    }
+}
