@@ -1,1 +1,4 @@
+pub mod Foreign
 pub mod Lines
+pub mod Misread
+pub mod Wrappings

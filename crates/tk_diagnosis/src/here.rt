@@ -1,5 +1,6 @@
 //! Diagnoses of faults: what was expected at the line of a fault, what was found there, and what to do.
 mod ends;
+mod misread;
 mod missing;
 mod numbers;
 mod parameters;

@@ -1,4 +1,5 @@
 //! The kinds of files, and how the kind of a file is recognized.
+use crate::foreign::{Foreign, foreign_of};
 use crate::lines::{first_token, lines_of, split_word, value_behind};
 use tk_params::key_of;
 use tk_words::{Keyword, keyword_of, spelled};
@@ -50,9 +51,26 @@ pub fn is_other_key(word: &[u8]) -> bool {
     false
 }
 
-/// The kind of a file, recognized by its lines or, if they do not show it, by its name.
+/// The kind of a file, recognized by its lines or, if they do not show it, by its name. A file of another program is
+/// read as what it can be converted to.
 pub fn kind_of(text: &[u8], name: &str) -> Kind {
     let text = text.strip_prefix(b"\xef\xbb\xbf").unwrap_or(text);
+    match foreign_of(text) {
+        Some(foreign) => kind_of_foreign(foreign),
+        None => kind_of_text(text, name),
+    }
+}
+
+/// The kind of file to which a file of another program can be converted.
+fn kind_of_foreign(foreign: Foreign) -> Kind {
+    match foreign {
+        Foreign::Csv | Foreign::Rows => Kind::Problem,
+        Foreign::Edges | Foreign::Concorde | Foreign::Column | Foreign::Row => Kind::Tour,
+    }
+}
+
+/// The kind of a text, recognized by its lines or, if they do not show it, by its name.
+fn kind_of_text(text: &[u8], name: &str) -> Kind {
     for line in lines_of(text) {
         if let Some(kind) = kind_shown(line.bytes) {
             return kind;

@@ -3,11 +3,13 @@
 #![tactic(auto)]
 
 mod fault;
+mod foreign;
 mod here;
 mod kind;
 mod lines;
 mod nearest;
 mod place;
+mod remark;
 mod repeats;
 mod sentence;
 mod shown;
@@ -16,9 +18,11 @@ mod taken;
 mod wrapping;
 
 pub use fault::FileFault;
+pub use foreign::{Foreign, foreign_of};
 pub use here::here_at;
 pub use kind::{Kind, begins_with_key, kind_of};
 pub use lines::last_line;
+pub use remark::Remark;
 pub use sentence::Sentence;
 pub use shown::shown_line;
 pub use spot::{Here, Spot};

@@ -1,9 +1,10 @@
 //! The lines of a text, and the words of a line.
-ghost use Rattle.std.specs.Prelude.{◌≡◌, ◌≤◌, ◌++◌, drop, length, suc, if◌then◌else◌};
+ghost use Rattle.std.specs.Prelude.{◌≡◌, ◌≤◌, ◌++◌, ◌==◌, drop, length, not, suc, if◌then◌else◌};
 ghost use Rattle.std.specs.Iterator.{at_most};
 ghost use Rattle.tk_words.specs.Texts.{line_behind};
 ghost use Rattle.tk_words.specs.Lex.{behind, is_blank, is_word_byte};
-ghost use Rattle.tk_diagnosis.specs.Lines.{after_front_word};
+ghost use Rattle.tk_diagnosis.specs.Lines.{after_front_word, after_line, after_token, first_line, first_token};
+ghost use Rattle.tk_diagnosis.specs.Lines.{is_solid};
 
 use tk_words::{Keyword, blank, keyword_of, letter, word_byte};
 
@@ -56,7 +57,8 @@ impl<'a> Iterator for Lines<'a> {
 
 /// The number of bytes before the first one that equals `sign`, or of all bytes if none does.
 pub fn length_before(bytes: &[u8], sign: u8) -> usize
-    ensures { result ≤ length bytes.now }
+    ensures within { result ≤ length bytes.now }
+    ensures rest { drop result bytes.now ≡ behind (λ b. not (b == sign)) bytes.now }
 {
     for i in 0..bytes.len() {
         if bytes[i] == sign {
@@ -64,6 +66,18 @@ pub fn length_before(bytes: &[u8], sign: u8) -> usize
         }
     }
     bytes.len()
+}
+
+/// The first line of a text, and the text after it.
+pub fn split_line(text: &[u8]) -> (&[u8], &[u8])
+    ensures line { result.0.now ≡ first_line text.now }
+    ensures rest { result.1.now ≡ after_line text.now }
+{
+    let (line, end) = text.split_at(length_before(text, b'\n'));
+    match end {
+        [_, rest @ ..] => (line, rest),
+        [] => (line, end),
+    }
 }
 
 /// The line with this number, if there is one.
@@ -159,8 +173,7 @@ impl<'a> Iterator for Tokens<'a> {
     ghost remaining = { λ s. at_most (length s.rest.now) };
 
     fn next(&mut self) -> Option<&'a [u8]> {
-        let bytes = without_blanks(self.rest);
-        let (token, rest) = bytes.split_at(token_end(bytes));
+        let (token, rest) = split_token(self.rest);
         self.rest = rest;
         if token.is_empty() {
             return None;
@@ -169,9 +182,19 @@ impl<'a> Iterator for Tokens<'a> {
     }
 }
 
+/// The token at the front of these bytes, after blanks, and the bytes after it. Without a token, both are empty.
+pub fn split_token(bytes: &[u8]) -> (&[u8], &[u8])
+    ensures token { result.0.now ≡ first_token bytes.now }
+    ensures rest { result.1.now ≡ after_token bytes.now }
+{
+    let bytes = without_blanks(bytes);
+    bytes.split_at(token_end(bytes))
+}
+
 /// The number of bytes before the first blank, or of all bytes if there is none.
 fn token_end(bytes: &[u8]) -> usize
-    ensures { result ≤ length bytes.now }
+    ensures within { result ≤ length bytes.now }
+    ensures rest { drop result bytes.now ≡ behind is_solid bytes.now }
 {
     for i in 0..bytes.len() {
         if blank(bytes[i]) {

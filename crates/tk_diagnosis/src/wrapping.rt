@@ -1,4 +1,9 @@
 //! Files that are not texts that tourkit can read, whatever their contents.
+ghost use Rattle.std.specs.Prelude.{◌≡◌};
+ghost use Rattle.tk_diagnosis.specs.Foreign.{foreign_of};
+ghost use Rattle.tk_diagnosis.specs.Wrappings as Files;
+
+use crate::foreign::{Foreign, foreign_here, foreign_of};
 use crate::sentence::Sentence;
 use crate::spot::Here;
 
@@ -13,26 +18,52 @@ pub enum Wrapping {
     Mark,
     /// NUL bytes, which no text contains.
     Binary,
+    /// The format of another program.
+    Foreign(Foreign),
 }
 
-/// Why a file is not a text that can be read, if this line shows it: the first line by its first bytes, any line by a
-/// NUL byte.
-pub fn wrapping_of(text: &[u8], number: u64, line: &[u8]) -> Option<Wrapping> {
+/// Why a file is not a text that can be read, if the line with this number shows it: the first line by its first bytes,
+/// any line by a NUL byte, and the first two lines by the format of another program.
+pub fn wrapping_of(text: &[u8], number: u64, line: &[u8]) -> Option<Wrapping>
+    ensures { result ≡ Files.wrapping_of text.now number line.now }
+{
     if number == 1 {
-        if text.starts_with(b"\x1f\x8b") {
-            return Some(Wrapping::Gzip);
-        }
-        if text.starts_with(b"\xef\xbb\xbf") {
-            return Some(Wrapping::Mark);
-        }
-        if text.starts_with(b"\xff\xfe") || text.starts_with(b"\xfe\xff") {
-            return Some(Wrapping::Utf16);
+        if let Some(wrapping) = begun_by(text) {
+            return Some(wrapping);
         }
     }
     if line.contains(&0) {
         return Some(Wrapping::Binary);
     }
+    if number <= 2 {
+        return in_foreign(text);
+    }
     None
+}
+
+/// Why a file is not a text that can be read, if its first bytes show it.
+fn begun_by(text: &[u8]) -> Option<Wrapping>
+    ensures { result ≡ Files.begun_by text.now }
+{
+    if text.starts_with(b"\x1f\x8b") {
+        Some(Wrapping::Gzip)
+    } else if text.starts_with(b"\xef\xbb\xbf") {
+        Some(Wrapping::Mark)
+    } else if text.starts_with(b"\xff\xfe") || text.starts_with(b"\xfe\xff") {
+        Some(Wrapping::Utf16)
+    } else {
+        None
+    }
+}
+
+/// The format of another program, if a file has one.
+fn in_foreign(text: &[u8]) -> Option<Wrapping>
+    ensures { result ≡ Files.in_foreign (foreign_of text.now) }
+{
+    match foreign_of(text) {
+        Some(foreign) => Some(Wrapping::Foreign(foreign)),
+        None => None,
+    }
 }
 
 /// The diagnosis of a file that is not a text that can be read.
@@ -43,8 +74,8 @@ pub fn wrapped<'a>(wrapping: Wrapping) -> Here<'a> {
             "Decompress it, as in zcat FILE.tsp.gz | tourkit check - TOUR.",
         ),
         Wrapping::Mark => (
-            "a byte order mark (the bytes ef bb bf) before the text",
-            "Save the file as UTF-8 without the mark, or remove it: tail -c +4 FILE >NEW.",
+            "a byte order mark in the first three bytes, which some editors write",
+            "Remove these three bytes: tail -c +4 FILE >NEW",
         ),
         Wrapping::Utf16 => (
             "a text in UTF-16",
@@ -54,6 +85,7 @@ pub fn wrapped<'a>(wrapping: Wrapping) -> Here<'a> {
             "NUL bytes, which no such text contains",
             "Give a text file. Unpack an archive first, and save a UTF-16 text as UTF-8.",
         ),
+        Wrapping::Foreign(foreign) => return foreign_here(foreign),
     };
     Here::advised("a text in ASCII or UTF-8", Sentence::of(read), remedy)
 }

@@ -5,6 +5,7 @@ use Rattle.std.specs.Char.{to_ascii_uppercase}
 use Rattle.tk_words.specs.Lex.{behind}
 use Rattle.tk_words.specs.Words.{same_bytes}
 use Rattle.tk_explain.specs.Faults.{faults}
+use Rattle.tk_explain.specs.Verdicts.{verdicts}
 
 -- equal words, whatever their case
 abbrev pub same_fault_word : List ℕ → List ℕ → Bool
@@ -21,3 +22,11 @@ is_named (number, name) what = same_fault_word (without_zeros what) number || sa
 -- the word is the number or the name of a fault of the table
 abbrev pub is_fault : List ℕ → Bool
 is_fault what = list_any (λ fault. is_named fault what) faults
+
+-- the word is the name of a fault of a verdict
+abbrev pub is_verdict : List ℕ → Bool
+is_verdict what = list_any (λ name. same_fault_word what name) verdicts
+
+-- the word is the number or the name of a fault of a file, or the name of one of a verdict
+abbrev pub is_explained : List ℕ → Bool
+is_explained what = is_fault what || is_verdict what

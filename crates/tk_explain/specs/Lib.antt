@@ -1,3 +1,5 @@
 pub mod Answers
 pub mod FaultWords
 pub mod Faults
+pub mod Remarks
+pub mod Verdicts

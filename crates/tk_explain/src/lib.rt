@@ -7,8 +7,10 @@ mod fault_table;
 mod file_pages;
 mod one_line;
 mod page;
+mod remark;
 mod sound;
 mod unread;
+mod verdict_table;
 mod whole;
 mod whole_file;
 

@@ -4,11 +4,12 @@ ghost use Rattle.std.specs.Prelude.{◌≡◌};
 use crate::answer::Answer;
 use crate::fault_table::{FaultText, text_of};
 use crate::page::{CAUSES, MEANING, Page, READ, REMEDY, WANTED};
+use crate::remark::remark_on;
 use crate::sound::Sound;
 use std::alloc::{AllocError, Global};
 use std::fmt;
 use tk_diagnosis::{
-    FileFault, Here, Kind, Spot, here_at, kind_of, shown_line, wrapped, wrapping_of,
+    FileFault, Here, Kind, Remark, Spot, here_at, kind_of, shown_line, wrapped, wrapping_of,
 };
 
 /// A file that is explained.
@@ -50,12 +51,32 @@ pub fn add_answer(page: &mut Page, file: &File<'_>, answer: &Answer) -> Result<(
     }
 }
 
-/// Adds a summary of a file without a fault, and how such a file is used.
+/// Adds a summary of a file without a fault, and how such a file is used, or what is probably wrong with it.
 pub fn add_sound(page: &mut Page, file: &File<'_>, sound: &Sound) -> Result<(), AllocError> {
+    if let Some(remark) = remark_on(sound) {
+        return add_remark(page, file, sound, remark);
+    }
     let name = file.name;
     let what = sound.sentence();
     page.line(&format_args!("{name} has no fault: it is {what}."))?;
     page.line(&use_of(file.kind))
+}
+
+/// Adds a summary of a file without a fault, the line that a remark is about, and what to do.
+fn add_remark(
+    page: &mut Page,
+    file: &File<'_>,
+    sound: &Sound,
+    remark: Remark,
+) -> Result<(), AllocError> {
+    let name = file.name;
+    let what = sound.sentence();
+    let reason = remark.reason();
+    page.heading(&format_args!("{name} is {what}, but {reason}."))?;
+    if let Some(line) = remark.line(file.text) {
+        add_lines(page, file, line, None)?;
+    }
+    page.labelled(REMEDY, remark.remedy())
 }
 
 /// How a file of this kind is used.

@@ -1,7 +1,8 @@
 //! Tokens that are not numbers, and numbers that a header or an entry does not allow.
+use super::misread::{DEMANDS, Misread, misread_of, read_as, remedy_of};
 use crate::kind::Kind;
 use crate::lines::{first_token, header_line, keyword_at, tokens_of, value_behind};
-use crate::place::{Place, entry_width, header_number, place_of, uneven_line};
+use crate::place::{Place, entry_width, header_number, natural, place_of, uneven_line};
 use crate::repeats::{Repeat, first_repeat};
 use crate::sentence::Sentence;
 use crate::spot::{Here, Spot};
@@ -88,14 +89,33 @@ fn in_header<'a>(spot: &Spot<'a>, word: Keyword, kind: TextKind) -> Here<'a> {
     } else {
         "{}"
     };
-    let text = "Write an integer from {}, with nothing between its digits.";
+    let value = first_token(value_behind(spot.line, b':'));
     Here {
         wanted: Sentence::of("{} : an integer from {}")
             .keyword(word)
             .text(limits),
-        read: Sentence::of_value(form, first_token(value_behind(spot.line, b':'))),
-        remedy: Some(Sentence::of(text).text(limits)),
+        read: Sentence::of_value(form, value),
+        remedy: Some(Sentence::of(remedy_of_header(spot.kind, word, value)).text(limits)),
         other: None,
+    }
+}
+
+/// What to do about a header whose value is not an integer, or is outside its limits. These are the value of the
+/// sentence.
+fn remedy_of_header(kind: Kind, word: Keyword, value: &[u8]) -> &'static str {
+    let is_large = natural(value).unwrap_or(0) > 1;
+    match word {
+        Keyword::Capacity if is_large => {
+            "Use a larger unit: divide CAPACITY and all demands by the same number, and round them to integers."
+        }
+        Keyword::Capacity if misread_of(value) == Misread::Decimal => DEMANDS,
+        Keyword::Dimension if is_large && kind == Kind::Tour => {
+            "Larger tours are not supported: use one of at most 1,000,000 cities."
+        }
+        Keyword::Dimension if is_large => {
+            "Larger problems are not supported: use one of at most 100,000 nodes, such as a part of this one."
+        }
+        _ => "Write an integer from {}, with nothing between its digits.",
     }
 }
 
@@ -137,7 +157,7 @@ fn in_section<'a>(spot: &Spot<'a>, place: Place, kind: TextKind) -> Result<Here<
 
 /// The diagnosis of a number with a fault of this kind.
 fn of_entry<'a>(spot: &Spot<'a>, entry: Entry, bytes: &'a [u8], kind: TextKind) -> Here<'a> {
-    if !bytes.contains(&b',') {
+    if !is_marked(bytes) {
         if let Some((line, count)) = uneven_line(spot.text, entry.section, spot.number) {
             return uneven(entry, bytes, line, count);
         }
@@ -147,6 +167,11 @@ fn of_entry<'a>(spot: &Spot<'a>, entry: Entry, bytes: &'a [u8], kind: TextKind) 
         TextKind::OutOfLimit => outside(entry, bytes),
         _ => no_number(entry, bytes),
     }
+}
+
+/// Whether a token cannot be part of a number, whatever comes before it: it contains a comma or #.
+fn is_marked(bytes: &[u8]) -> bool {
+    matches!(misread_of(bytes), Misread::Comma | Misread::Comment)
 }
 
 /// The first number on a line that has a fault of this kind. Repeated nodes are not found here.
@@ -263,30 +288,17 @@ fn outside(entry: Entry, bytes: &[u8]) -> Here<'_> {
 
 /// The diagnosis of a token that is not a number.
 fn no_number(entry: Entry, bytes: &[u8]) -> Here<'_> {
-    let has_comma = bytes.contains(&b',');
-    if !has_comma && entry.section == Keyword::NodeCoordSection && entry.index % 3 != 0 {
-        return Here::new(
-            entry.wanted(),
-            Sentence::about("{}, which is not a number", bytes),
-        );
+    let misread = misread_of(bytes);
+    let field = entry.index % entry_width(entry.section);
+    let is_decimal = entry.section == Keyword::NodeCoordSection && field > 0;
+    let here = Here::new(
+        entry.wanted(),
+        Sentence::about(read_as(misread, !is_decimal), bytes),
+    );
+    match misread {
+        Misread::Decimal | Misread::Word if is_decimal => here,
+        _ => here.advice(remedy_of(misread, entry.section, field)),
     }
-    let (read, remedy) = if has_comma {
-        (
-            "{}, with a comma",
-            "Write a decimal point instead of the comma, or a blank if it separates two numbers.",
-        )
-    } else if bytes.contains(&b'.') {
-        (
-            "{}, which is not an integer",
-            "Write an integer. If this is a coordinate, there is a number missing or extra before it.",
-        )
-    } else {
-        (
-            "{}, which is not a number",
-            "Write an integer, with blanks between the numbers.",
-        )
-    };
-    Here::new(entry.wanted(), Sentence::about(read, bytes)).advice(remedy)
 }
 
 /// The diagnosis of a node that is repeated in a section.

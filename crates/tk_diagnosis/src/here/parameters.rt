@@ -150,10 +150,16 @@ fn value_of_key(key: Key, bytes: &[u8]) -> Here<'_> {
     Here {
         wanted: Sentence::of("{}, as the value of {}").text(values).key(key),
         read: Sentence::of_value("{}", bytes),
-        remedy: Some(other_value(bytes, values)),
+        remedy: Some(match bytes {
+            [b':', rest @ ..] => Sentence::of(COLON).key(key).word(rest.trim_ascii()),
+            _ => other_value(bytes, values),
+        }),
         other: None,
     }
 }
+
+/// The remedy for a colon after a key. Its values are the key and what follows the colon.
+const COLON: &str = "Write an equals sign instead of the colon: {} = {}";
 
 /// The remedy for a value, given a description of the values that are allowed.
 fn other_value<'a>(bytes: &[u8], values: &'static str) -> Sentence<'a> {

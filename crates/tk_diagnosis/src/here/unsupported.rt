@@ -5,7 +5,14 @@ use crate::sentence::Sentence;
 use crate::spot::{Here, Spot};
 use tk_words::{Keyword, spelled};
 
-/// The remedy for distances that are not supported.
+/// The distance types that a script of the examples converts to explicit weights.
+static CONVERTED: [&str; 6] = ["GEO", "EUC_3D", "MAX_3D", "MAN_3D", "XRAY1", "XRAY2"];
+
+/// The remedy for such a distance type.
+const CONVERT: &str = "If the problem has at most 5,000 nodes, convert it to explicit distances: \
+examples/explicit-distances FILE >NEW.tsp";
+
+/// The remedy for other distances that are not supported.
 const EXPLICIT: &str =
     "If the distances are symmetric, compute them, and write them as explicit weights: \
 EDGE_WEIGHT_TYPE : EXPLICIT, EDGE_WEIGHT_FORMAT : FULL_MATRIX and EDGE_WEIGHT_SECTION.";
@@ -31,25 +38,37 @@ pub fn unsupported<'a>(spot: &Spot<'a>) -> Here<'a> {
 fn in_problem<'a>(spot: &Spot<'a>, word: Keyword) -> Here<'a> {
     match word {
         Keyword::Type => other_type(spot),
-        Keyword::EdgeWeightType => valued(
-            spot,
-            "EDGE_WEIGHT_TYPE EUC_2D, CEIL_2D, MAN_2D, MAX_2D, ATT or EXPLICIT",
-            EXPLICIT,
-        ),
+        Keyword::EdgeWeightType => other_distances(spot),
         Keyword::EdgeWeightFormat => valued(
             spot,
             FORMATS,
             "Write the format in which the weights are listed.",
         ),
-        Keyword::NodeCoordType => valued(
-            spot,
-            "NODE_COORD_TYPE TWOD_COORDS or NO_COORDS",
-            "Only two coordinates are supported. If the third one does not matter, remove it and this line.",
-        ),
+        Keyword::NodeCoordType => valued(spot, "NODE_COORD_TYPE TWOD_COORDS or NO_COORDS", CONVERT),
         Keyword::DemandSection | Keyword::DepotSection => for_cvrp(spot, word),
         Keyword::EdgeWeightSection => without_weights(spot),
         _ => return not_supported(word),
     }
+}
+
+/// The diagnosis of a distance type that is not supported.
+fn other_distances<'a>(spot: &Spot<'a>) -> Here<'a> {
+    let is_converted = is_converted(first_token(value_behind(spot.line, b':')));
+    valued(
+        spot,
+        "EDGE_WEIGHT_TYPE EUC_2D, CEIL_2D, MAN_2D, MAX_2D, ATT or EXPLICIT",
+        if is_converted { CONVERT } else { EXPLICIT },
+    )
+}
+
+/// Whether a script of the examples converts this distance type to explicit weights.
+fn is_converted(word: &[u8]) -> bool {
+    for kind in CONVERTED.as_slice() {
+        if spelled(word, kind.as_bytes()) {
+            return true;
+        }
+    }
+    false
 }
 
 /// The diagnosis of a header or a section that is not supported at all.
