@@ -2,12 +2,13 @@
 use Rattle.std.specs.Prelude.{ℕ, ◌^◌, ◌-◌, Bool, true, false, not, ◌&&◌, ◌||◌, ◌==◌, nat_lt, List, [], ◌∷◌}
 use Rattle.std.specs.Prelude.{Option, Some, None, is_some, if◌then◌else◌}
 use Rattle.std.specs.Char.{is_ascii_digit}
-use Rattle.tk_words.specs.Lex.{behind, front, is_blank, is_empty, is_letter, is_word_byte}
-use Rattle.tk_words.specs.Words.{begins_word, keyword_of}
+use Rattle.tk_words.specs.Lex.{behind, is_blank, is_empty}
+use Rattle.tk_words.specs.Words.{keyword_of}
+use Rattle.tk_params.specs.Keys.{key_of}
 use Rattle.tk_diagnosis.specs.declared.foreign.Foreign.{Foreign}
 use Rattle.tk_diagnosis.specs.declared.foreign.Foreign.TheVariants as files
 use Rattle.tk_diagnosis.specs.Lines.{after_front_word, after_line, after_token, contains, first_line}
-use Rattle.tk_diagnosis.specs.Lines.{first_token, number}
+use Rattle.tk_diagnosis.specs.Lines.{first_token, front_word, number}
 
 -- a comma or a semicolon
 abbrev pub has_separator : List ℕ → Bool
@@ -17,15 +18,16 @@ abbrev pub begins_blank : List ℕ → Bool
 begins_blank [] = false
 begins_blank (b ∷ bs) = is_blank b
 
--- the word at the front of a line, after blanks; empty if the line does not begin with a letter
-abbrev pub front_word : List ℕ → List ℕ
-front_word line = if begins_word (behind is_blank line) then front is_word_byte (behind is_blank line) else []
+-- a keyword or a key
+abbrev pub is_word : List ℕ → Bool
+is_word word = is_some (keyword_of word) || is_some (key_of word)
 
--- a keyword and a blank after it
+-- a keyword or a key, and a blank after it
 abbrev pub has_keyword : List ℕ → Bool
-has_keyword line = is_some (keyword_of (front_word line)) && begins_blank (after_front_word (behind is_blank line))
+has_keyword line =
+    is_word (front_word (behind is_blank line)) && begins_blank (after_front_word (behind is_blank line))
 
--- a colon, an equals sign, a # or a keyword
+-- a colon, an equals sign, a #, or a keyword or key at the front
 abbrev pub is_header : List ℕ → Bool
 is_header line = contains 58 line || contains 61 line || contains 35 line || has_keyword line
 

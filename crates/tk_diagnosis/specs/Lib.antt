@@ -1,4 +1,6 @@
+pub mod DistanceTypes
 pub mod Foreign
+pub mod Kinds
 pub mod Lines
 pub mod Misread
 pub mod Wrappings

@@ -3,7 +3,11 @@ use Rattle.std.specs.Prelude.{ℕ, ℤ, pos, Bool, not, ◌==◌, List, [], ◌�
 use Rattle.std.specs.List.{list_any}
 use Rattle.tk_words.specs.Lex.{LF, behind, front, integer, is_blank, is_letter, is_word_byte}
 
--- the bytes after the word at the front, which begins with a letter
+-- the word at the front, which begins with a letter, and the bytes after it
+abbrev pub front_word : List ℕ → List ℕ
+front_word [] = []
+front_word (b ∷ bs) = if is_letter b then front is_word_byte (b ∷ bs) else []
+
 abbrev pub after_front_word : List ℕ → List ℕ
 after_front_word [] = []
 after_front_word (b ∷ bs) = if is_letter b then behind is_word_byte (b ∷ bs) else b ∷ bs

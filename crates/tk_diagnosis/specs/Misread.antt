@@ -1,6 +1,5 @@
 -- Tokens that are not the numbers that are expected.
 use Rattle.std.specs.Prelude.{ℕ, Bool, ◌||◌, ◌==◌, List, [], ◌∷◌, codes, if◌then◌else◌}
-use Rattle.std.specs.List.{list_any}
 use Rattle.tk_words.specs.Words.{spells}
 use Rattle.tk_diagnosis.specs.declared.here.misread.Misread.{Misread}
 use Rattle.tk_diagnosis.specs.declared.here.misread.Misread.TheVariants as tokens

@@ -1,5 +1,5 @@
 -- Why a file is not a text that can be read.
-use Rattle.std.specs.Prelude.{ℕ, Bool, ◌&&◌, ◌||◌, ◌==◌, nat_le, List, [], ◌∷◌, Option, Some, None, if◌then◌else◌}
+use Rattle.std.specs.Prelude.{ℕ, Bool, ◌||◌, ◌==◌, nat_le, List, [], ◌∷◌, Option, Some, None, if◌then◌else◌}
 use Rattle.std.specs.List.{list_any, starts_with}
 use Rattle.tk_diagnosis.specs.declared.foreign.Foreign.{Foreign}
 use Rattle.tk_diagnosis.specs.declared.wrapping.Wrapping.{Wrapping}

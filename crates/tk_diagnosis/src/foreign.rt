@@ -8,6 +8,7 @@ use crate::lines::{split_line, split_token, split_word};
 use crate::place::natural;
 use crate::sentence::Sentence;
 use crate::spot::Here;
+use tk_params::key_of;
 use tk_words::{blank, keyword_of};
 
 /// The format of a file that another program wrote.
@@ -49,7 +50,7 @@ pub fn foreign_of(text: &[u8]) -> Option<Foreign>
 fn of_list(first: &[u8], second: &[u8]) -> Option<Foreign>
     ensures { result ≡ Files.of_list first.now second.now }
 {
-    if is_end(after_number(first, u64::MAX)) {
+    if is_number(first) {
         Some(Foreign::Column)
     } else if is_one_line(first, second) {
         Some(Foreign::Row)
@@ -75,19 +76,19 @@ fn has_separator(line: &[u8]) -> bool
 }
 
 /// Whether a line is a header, a key or a comment of the formats of tourkit: it contains a colon, an equals sign or #,
-/// or begins with a keyword and a blank.
+/// or begins with a keyword or a key and a blank.
 fn is_header(line: &[u8]) -> bool
     ensures { result ≡ Files.is_header line.now }
 {
     line.contains(&b':') || line.contains(&b'=') || line.contains(&b'#') || has_keyword(line)
 }
 
-/// Whether a line begins with a keyword and a blank.
+/// Whether a line begins with a keyword or a key and a blank.
 fn has_keyword(line: &[u8]) -> bool
     ensures { result ≡ Files.has_keyword line.now }
 {
     let (word, rest) = split_word(line);
-    keyword_of(word).is_some() && begins_blank(rest)
+    (keyword_of(word).is_some() || key_of(word).is_some()) && begins_blank(rest)
 }
 
 /// Whether these bytes begin with a blank.
@@ -104,9 +105,7 @@ fn begins_blank(bytes: &[u8]) -> bool
 fn is_edges(first: &[u8], second: &[u8]) -> bool
     ensures { result ≡ Files.is_edges first.now second.now }
 {
-    has_equal_numbers(first)
-        && is_end(after_two(first, u64::MAX))
-        && is_end(after_three(second, u64::MAX))
+    has_equal_numbers(first) && is_pair(first) && is_triple(second)
 }
 
 /// Whether the first two tokens of a line are the same number, or are not numbers.
@@ -122,7 +121,7 @@ fn is_concorde(first: &[u8], second: &[u8]) -> bool
     ensures { result ≡ Files.is_concorde first.now second.now }
 {
     match natural(split_token(first).0) {
-        Some(cities) => is_end(after_number(first, u64::MAX)) && has_cities(second, cities),
+        Some(cities) => is_number(first) && has_cities(second, cities),
         None => false,
     }
 }
@@ -137,11 +136,31 @@ fn has_cities(line: &[u8], cities: u64) -> bool
     }
 }
 
-/// Whether only blanks follow the numbers of a line; `None` if there are not as many numbers.
-fn is_end(rest: Option<&[u8]>) -> bool
-    ensures { result ≡ Files.is_end (option_map (λ s. s.now) rest) }
+/// Whether a line contains one number, and nothing else.
+fn is_number(line: &[u8]) -> bool
+    ensures { result ≡ Files.is_end (Files.after_number Files.any line.now) }
 {
-    match rest {
+    match after_number(line, u64::MAX) {
+        Some(rest) => is_blank_line(rest),
+        None => false,
+    }
+}
+
+/// Whether a line contains two numbers, and nothing else.
+fn is_pair(line: &[u8]) -> bool
+    ensures { result ≡ Files.is_end (Files.after_two Files.any line.now) }
+{
+    match after_two(line, u64::MAX) {
+        Some(rest) => is_blank_line(rest),
+        None => false,
+    }
+}
+
+/// Whether a line contains three numbers, and nothing else.
+fn is_triple(line: &[u8]) -> bool
+    ensures { result ≡ Files.is_end (Files.after_three Files.any line.now) }
+{
+    match after_three(line, u64::MAX) {
         Some(rest) => is_blank_line(rest),
         None => false,
     }
@@ -216,7 +235,8 @@ pub fn foreign_here<'a>(foreign: Foreign) -> Here<'a> {
     let (read, remedy) = match foreign {
         Foreign::Csv => (
             "a CSV file: values separated by commas or semicolons",
-            "If it has columns name, x, y and demand, separated by commas, convert it to a CVRP: \
+            "For a TSP, write its places as coordinates, as in examples/square.tsp. For a CVRP, convert a file with \
+            the columns name, x, y and demand, separated by commas: \
             examples/csv-to-cvrp --capacity N FILE >NEW.vrp",
         ),
         Foreign::Edges => (

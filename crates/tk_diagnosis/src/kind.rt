@@ -1,4 +1,8 @@
 //! The kinds of files, and how the kind of a file is recognized.
+ghost use Rattle.std.specs.Prelude.{◌≡◌, IfSome};
+ghost use Rattle.tk_diagnosis.specs.Foreign.{foreign_of};
+ghost use Rattle.tk_diagnosis.specs.Kinds.{kind_of_foreign, without_mark};
+
 use crate::foreign::{Foreign, foreign_of};
 use crate::lines::{first_token, lines_of, split_word, value_behind};
 use tk_params::key_of;
@@ -53,16 +57,30 @@ pub fn is_other_key(word: &[u8]) -> bool {
 
 /// The kind of a file, recognized by its lines or, if they do not show it, by its name. A file of another program is
 /// read as what it can be converted to.
-pub fn kind_of(text: &[u8], name: &str) -> Kind {
-    let text = text.strip_prefix(b"\xef\xbb\xbf").unwrap_or(text);
+pub fn kind_of(text: &[u8], name: &str) -> Kind
+    ensures foreign { IfSome (foreign_of (without_mark text.now)) (λ foreign. result ≡ kind_of_foreign foreign) }
+{
+    let text = without_mark(text);
     match foreign_of(text) {
         Some(foreign) => kind_of_foreign(foreign),
         None => kind_of_text(text, name),
     }
 }
 
+/// A text without a byte order mark of UTF-8 at its front.
+fn without_mark(text: &[u8]) -> &[u8]
+    ensures { result.now ≡ without_mark text.now }
+{
+    match text {
+        [0xef, 0xbb, 0xbf, text @ ..] => text,
+        _ => text,
+    }
+}
+
 /// The kind of file to which a file of another program can be converted.
-fn kind_of_foreign(foreign: Foreign) -> Kind {
+fn kind_of_foreign(foreign: Foreign) -> Kind
+    ensures { result ≡ kind_of_foreign foreign }
+{
     match foreign {
         Foreign::Csv | Foreign::Rows => Kind::Problem,
         Foreign::Edges | Foreign::Concorde | Foreign::Column | Foreign::Row => Kind::Tour,

@@ -18,7 +18,6 @@ mod taken;
 mod wrapping;
 
 pub use fault::FileFault;
-pub use foreign::{Foreign, foreign_of};
 pub use here::here_at;
 pub use kind::{Kind, begins_with_key, kind_of};
 pub use lines::last_line;

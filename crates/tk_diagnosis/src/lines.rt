@@ -1,10 +1,10 @@
 //! The lines of a text, and the words of a line.
-ghost use Rattle.std.specs.Prelude.{◌≡◌, ◌≤◌, ◌++◌, ◌==◌, drop, length, not, suc, if◌then◌else◌};
+ghost use Rattle.std.specs.Prelude.{◌≡◌, ◌≤◌, ◌+◌, ◌++◌, ◌==◌, drop, length, not, suc, if◌then◌else◌};
 ghost use Rattle.std.specs.Iterator.{at_most};
 ghost use Rattle.tk_words.specs.Texts.{line_behind};
-ghost use Rattle.tk_words.specs.Lex.{behind, is_blank, is_word_byte};
+ghost use Rattle.tk_words.specs.Lex.{behind, front, is_blank, is_word_byte};
 ghost use Rattle.tk_diagnosis.specs.Lines.{after_front_word, after_line, after_token, first_line, first_token};
-ghost use Rattle.tk_diagnosis.specs.Lines.{is_solid};
+ghost use Rattle.tk_diagnosis.specs.Lines.{front_word, is_solid};
 
 use tk_words::{Keyword, blank, keyword_of, letter, word_byte};
 
@@ -69,6 +69,7 @@ pub fn length_before(bytes: &[u8], sign: u8) -> usize
 }
 
 /// The first line of a text, and the text after it.
+#[tactic(auto, using(crate::proofs::Fronts::take_front))]
 pub fn split_line(text: &[u8]) -> (&[u8], &[u8])
     ensures line { result.0.now ≡ first_line text.now }
     ensures rest { result.1.now ≡ after_line text.now }
@@ -129,15 +130,26 @@ fn word_end(line: &[u8]) -> usize
     line.len()
 }
 
+/// The letters, digits and underscores at the front of a line, and the bytes after them.
+#[tactic(auto, using(crate::proofs::Fronts::take_front))]
+fn split_word_bytes(line: &[u8]) -> (&[u8], &[u8])
+    ensures word { result.0.now ≡ front is_word_byte line.now }
+    ensures rest { result.1.now ≡ behind is_word_byte line.now }
+    ensures whole { result.0.now ++ result.1.now ≡ line.now }
+{
+    line.split_at(word_end(line))
+}
+
 /// The word at the front of a line, after blanks, and the bytes after it. The word is empty if the line does not begin
 /// with a letter.
 pub fn split_word(line: &[u8]) -> (&[u8], &[u8])
+    ensures word { result.0.now ≡ front_word (behind is_blank line.now) }
     ensures rest { result.1.now ≡ after_front_word (behind is_blank line.now) }
     ensures whole { result.0.now ++ result.1.now ≡ behind is_blank line.now }
 {
     let line = without_blanks(line);
-    match line.first() {
-        Some(byte) if letter(*byte) => line.split_at(word_end(line)),
+    match line {
+        [byte, ..] if letter(*byte) => split_word_bytes(line),
         _ => (b"".as_slice(), line),
     }
 }
@@ -183,9 +195,11 @@ impl<'a> Iterator for Tokens<'a> {
 }
 
 /// The token at the front of these bytes, after blanks, and the bytes after it. Without a token, both are empty.
+#[tactic(auto, using(crate::proofs::Fronts::take_front))]
 pub fn split_token(bytes: &[u8]) -> (&[u8], &[u8])
     ensures token { result.0.now ≡ first_token bytes.now }
     ensures rest { result.1.now ≡ after_token bytes.now }
+    ensures within { length result.0.now + length result.1.now ≤ length bytes.now }
 {
     let bytes = without_blanks(bytes);
     bytes.split_at(token_end(bytes))

@@ -1,10 +1,9 @@
 -- What is probably wrong with the contents of a file that has no fault.
-use Rattle.std.specs.Prelude.{ℕ, ◌-◌, Bool, true, false, ◌&&◌, ◌||◌, ◌==◌, nat_lt, List, [], ◌∷◌, length}
+use Rattle.std.specs.Prelude.{ℕ, ◌-◌, Bool, false, ◌&&◌, ◌||◌, ◌==◌, nat_lt, List, [], ◌∷◌, length}
 use Rattle.std.specs.Prelude.{Option, Some, None, Vec, slice_index_or, if◌then◌else◌}
 use Rattle.std.specs.declared.alloc.Global.{Global}
 use Rattle.std.specs.List.{list_any}
 use Rattle.tk_params.specs.Asked.{ParamsAre}
-use Rattle.tk_params.specs.Reader.Stored.{params_in}
 use Rattle.tk_diagnosis.specs.declared.remark.Remark.{Remark}
 use Rattle.tk_diagnosis.specs.declared.remark.Remark.TheVariants as remarks
 use Rattle.tk_explain.specs.declared.sound.Sound.{Sound}
@@ -52,4 +51,4 @@ abbrev pub remark_on : Sound → Option Remark
 remark_on (contents.Problem problem) = None
 remark_on (contents.Tour tour) = on_cities tour.cities.items
 remark_on (contents.Solution solution) = on_routes solution.routes.items
-remark_on (contents.Parameters params) = on_names (params_in params)
+remark_on (contents.Parameters params) = on_names params

@@ -90,7 +90,7 @@ fn on_names(params: &Params) -> Option<Remark>
 
 /// Whether a file name begins with a colon.
 fn has_colon(name: Option<&str>) -> bool
-    ensures { result ≡ Remarks.has_colon (option_map (λ s. s.now) name) }
+    ensures { result ≡ Remarks.has_colon (option_map (λ s. s.now) name.entry) }
 {
     match name {
         Some(name) => begins_with_colon(name.as_bytes()),

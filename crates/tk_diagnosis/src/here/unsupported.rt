@@ -1,14 +1,14 @@
 //! Keywords and values of TSPLIB that tourkit does not support.
+ghost use Rattle.std.specs.Prelude.{◌≡◌};
+ghost use Rattle.tk_diagnosis.specs.DistanceTypes.{is_converted, is_in_space, is_of_crystals};
+
 use crate::kind::Kind;
 use crate::lines::{first_token, header, header_line, keyword_at, value_behind};
 use crate::sentence::Sentence;
 use crate::spot::{Here, Spot};
 use tk_words::{Keyword, spelled};
 
-/// The distance types that a script of the examples converts to explicit weights.
-static CONVERTED: [&str; 6] = ["GEO", "EUC_3D", "MAX_3D", "MAN_3D", "XRAY1", "XRAY2"];
-
-/// The remedy for such a distance type.
+/// The remedy for a distance type that a script of the examples converts to explicit weights.
 const CONVERT: &str = "If the problem has at most 5,000 nodes, convert it to explicit distances: \
 examples/explicit-distances FILE >NEW.tsp";
 
@@ -62,13 +62,24 @@ fn other_distances<'a>(spot: &Spot<'a>) -> Here<'a> {
 }
 
 /// Whether a script of the examples converts this distance type to explicit weights.
-fn is_converted(word: &[u8]) -> bool {
-    for kind in CONVERTED.as_slice() {
-        if spelled(word, kind.as_bytes()) {
-            return true;
-        }
-    }
-    false
+fn is_converted(word: &[u8]) -> bool
+    ensures { result ≡ is_converted word.now }
+{
+    spelled(word, b"GEO") || is_in_space(word) || is_of_crystals(word)
+}
+
+/// Whether this distance type is one of points with three coordinates.
+fn is_in_space(word: &[u8]) -> bool
+    ensures { result ≡ is_in_space word.now }
+{
+    spelled(word, b"EUC_3D") || spelled(word, b"MAX_3D") || spelled(word, b"MAN_3D")
+}
+
+/// Whether this distance type is one of crystallography.
+fn is_of_crystals(word: &[u8]) -> bool
+    ensures { result ≡ is_of_crystals word.now }
+{
+    spelled(word, b"XRAY1") || spelled(word, b"XRAY2")
 }
 
 /// The diagnosis of a header or a section that is not supported at all.
