@@ -100,12 +100,16 @@ is_list line = is_empty (behind is_list_byte line)
 abbrev pub is_one_line : List ℕ → List ℕ → Bool
 is_one_line first second = is_list first && not (is_empty (first_token first)) && is_empty (first_token second)
 
--- one number on a line; all numbers on one line; or two numbers at the front of the first line
+abbrev pub has_word : List ℕ → Bool
+has_word line = not (is_empty (front_word (behind is_blank line)))
+
+-- one number on a line; all numbers on one line; or two numbers at the front of the first line. No word follows it
 abbrev pub of_list : List ℕ → List ℕ → Option Foreign
 of_list first second =
-    if is_end (after_number any first) then Some files.Column
+    if has_word second then None
+    else (if is_end (after_number any first) then Some files.Column
     else (if is_one_line first second then Some files.Row
-    else (if is_some_line (after_two any first) then Some files.Rows else None))
+    else (if is_some_line (after_two any first) then Some files.Rows else None)))
 
 -- the format that these two lines show
 abbrev pub of_lines : List ℕ → List ℕ → Option Foreign

@@ -46,11 +46,13 @@ pub fn foreign_of(text: &[u8]) -> Option<Foreign>
     of_list(first, second)
 }
 
-/// The format of a file that is a list of numbers.
+/// The format of a file that is a list of numbers; `None` if a word follows its first line.
 fn of_list(first: &[u8], second: &[u8]) -> Option<Foreign>
     ensures { result ≡ Files.of_list first.now second.now }
 {
-    if is_number(first) {
+    if has_word(second) {
+        None
+    } else if is_number(first) {
         Some(Foreign::Column)
     } else if is_one_line(first, second) {
         Some(Foreign::Row)
@@ -59,6 +61,13 @@ fn of_list(first: &[u8], second: &[u8]) -> Option<Foreign>
     } else {
         None
     }
+}
+
+/// Whether a line begins with a word.
+fn has_word(line: &[u8]) -> bool
+    ensures { result ≡ Files.has_word line.now }
+{
+    !split_word(line).0.is_empty()
 }
 
 /// Whether these are the first two lines of a CSV file.
