@@ -12,7 +12,8 @@ use Rattle.tk_explain.specs.declared.fault_table.FaultText.{FaultText}
 abbrev pub named : FaultText → List ℕ × List ℕ
 named fault = (fault.number.now, fault.name.now)
 
--- the faults of problem, tour and solution files, of parameter files, and of an initial tour
+-- the faults of problem, tour and solution files, of parameter files, of an initial tour, and, without numbers, of the
+-- verdicts on tours and on routes
 abbrev pub faults : List (List ℕ × List ℕ)
 faults =
     (codes "1", codes "UnknownKeyword") ∷
@@ -40,7 +41,15 @@ faults =
     (codes "8", codes "NoMemory") ∷
     (codes "1", codes "WrongCount") ∷
     (codes "2", codes "OutOfRange") ∷
-    (codes "3", codes "RepeatedCity") ∷ []
+    (codes "3", codes "RepeatedCity") ∷
+    (codes "", codes "WrongCount") ∷
+    (codes "", codes "OutOfRange") ∷
+    (codes "", codes "RepeatedCity") ∷
+    (codes "", codes "BadCustomer") ∷
+    (codes "", codes "ServedTwice") ∷
+    (codes "", codes "OverCapacity") ∷
+    (codes "", codes "NotServed") ∷
+    (codes "", codes "WrongCost") ∷ []
 
 -- the number and the name of a kind of fault
 abbrev pub text_named : TextKind → List ℕ × List ℕ

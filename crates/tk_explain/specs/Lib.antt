@@ -2,4 +2,3 @@ pub mod Answers
 pub mod FaultWords
 pub mod Faults
 pub mod Remarks
-pub mod Verdicts

@@ -2,12 +2,10 @@
 ghost use Rattle.std.specs.Prelude.{◌≡◌, ◌<◌, ◌↔◌, length, All, IsTrue, is_some, IfOk, IfSome};
 ghost use Rattle.std.specs.Char.{IsAsciiDigit};
 ghost use Rattle.std.specs.String.{string_len};
-ghost use Rattle.tk_explain.specs.FaultWords.{is_explained, is_fault, is_named, is_verdict, same_fault_word};
-ghost use Rattle.tk_explain.specs.FaultWords.{without_zeros};
+ghost use Rattle.tk_explain.specs.FaultWords.{is_fault, is_named, same_fault_word, without_zeros};
 
 use crate::fault_table::{FaultText, faults};
 use crate::page::{CAUSES, MEANING, Page, REMEDY};
-use crate::verdict_table::verdicts;
 use std::alloc::{AllocError, Global};
 
 /// The explanations of all faults with this number or name, whatever its case; `None` if there is no such fault. The
@@ -16,10 +14,10 @@ use std::alloc::{AllocError, Global};
 /// # Errors
 /// `AllocError` if memory runs out.
 pub fn fault_page(alloc: Global, what: &str) -> Result<Option<String>, AllocError>
-    ensures found { IfOk result (λ page. is_some page ≡ is_explained what.now) }
+    ensures found { IfOk result (λ page. is_some page ≡ is_fault what.now) }
     ensures words { IfOk result (λ page. IfSome page (λ text. 0 < string_len text)) }
 {
-    if !is_explained(what) {
+    if !is_fault(what) {
         return Ok(None);
     }
     let mut page = Page::new(alloc);
@@ -27,21 +25,7 @@ pub fn fault_page(alloc: Global, what: &str) -> Result<Option<String>, AllocErro
     Ok(Some(page.finished()?))
 }
 
-/// Whether a word is the number or the name of a fault of a file, or the name of one of a verdict.
-fn is_explained(what: &str) -> bool
-    ensures { result ≡ is_explained what.now }
-{
-    is_fault(what) || is_verdict(what)
-}
-
-/// Whether a word is the name of a fault of a verdict.
-fn is_verdict(what: &str) -> bool
-    ensures { result ≡ is_verdict what.now }
-{
-    verdicts().iter().any(|verdict| same_word(what.as_bytes(), verdict.name.as_bytes()))
-}
-
-/// Whether a word is the number or the name of a fault of a file.
+/// Whether a word is the number or the name of a fault.
 fn is_fault(what: &str) -> bool
     ensures { result ≡ is_fault what.now }
 {
@@ -50,16 +34,14 @@ fn is_fault(what: &str) -> bool
 
 /// Adds the explanations of all faults with this number or name, separated by blank lines.
 fn add_all(page: &mut Page, what: &str) -> Result<(), AllocError> {
+    let mut is_first = true;
     for fault in faults().iter() {
         if is_named(fault, what) {
-            page.part(fault)?;
-            add(page, fault.when, fault.causes, fault.remedy)?;
-        }
-    }
-    for verdict in verdicts().iter() {
-        if same_word(what.as_bytes(), verdict.name.as_bytes()) {
-            page.part(verdict)?;
-            add(page, verdict.when, verdict.causes, verdict.remedy)?;
+            if !is_first {
+                page.begin()?;
+            }
+            add(page, fault)?;
+            is_first = false;
         }
     }
     Ok(())
@@ -77,7 +59,7 @@ fn is_named(fault: &FaultText, what: &str) -> bool
     ensures { result ≡ is_named (fault.now.number.now, fault.now.name.now) what.now }
 {
     let what = what.as_bytes();
-    same_word(without_zeros(what), fault.number.as_bytes())
+    (!fault.number.is_empty() && same_word(without_zeros(what), fault.number.as_bytes()))
         || same_word(what, fault.name.as_bytes())
 }
 
@@ -108,14 +90,10 @@ fn same_word(bytes: &[u8], text: &[u8]) -> bool
     true
 }
 
-/// Adds the explanation of a fault: its meaning, its usual causes, and what to do.
-fn add(
-    page: &mut Page,
-    when: &'static str,
-    causes: &'static str,
-    remedy: &'static str,
-) -> Result<(), AllocError> {
-    page.labelled(MEANING, when)?;
-    page.labelled(CAUSES, causes)?;
-    page.labelled(REMEDY, remedy)
+/// Adds the explanation of a fault.
+fn add(page: &mut Page, fault: &FaultText) -> Result<(), AllocError> {
+    page.line(fault)?;
+    page.labelled(MEANING, fault.when)?;
+    page.labelled(CAUSES, fault.causes)?;
+    page.labelled(REMEDY, fault.remedy)
 }

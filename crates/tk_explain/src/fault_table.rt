@@ -1,5 +1,5 @@
-//! The faults of files: the meaning of each, its usual causes, and what to do. docs/FORMATS.md and docs/tourkit.1
-//! contain the same texts, which `tests/explained` compares.
+//! The faults of files, and those of verdicts, whose names `--json` prints: the meaning of each, its usual causes, and
+//! what to do. docs/FORMATS.md and docs/tourkit.1 contain the same texts, which `tests/explained` compares.
 ghost use Rattle.std.specs.Prelude.{◌≡◌, Some, map, slice_get};
 ghost use Rattle.tk_explain.specs.Faults.{fault_named, faults, named, param_named, text_named};
 
@@ -17,11 +17,18 @@ const PARAMETERS: &str = "a parameter file";
 /// The files that can have the faults of an initial tour.
 const INITIAL_TOURS: &str = "an initial tour";
 
+/// The verdicts on tours.
+const CHECK: &str = "a verdict of check";
+
+/// The verdicts on the routes of solutions.
+const CHECKSOL: &str = "a verdict of checksol";
+
 /// A fault, as the documents list it.
 #[derive(Clone, Copy)]
 pub struct FaultText {
-    /// The files that can have it.
+    /// The files or verdicts that can have it.
     pub files: &'static str,
+    /// The number; empty for a fault of a verdict.
     pub number: &'static str,
     pub name: &'static str,
     /// The text after the name, with a leading blank; empty for most faults.
@@ -44,7 +51,10 @@ impl fmt::Display for FaultText {
             values,
             ..
         } = *self;
-        write!(f, "{number} {name}{values}, in {files}")
+        if !number.is_empty() {
+            write!(f, "{number} ")?;
+        }
+        write!(f, "{name}{values}, in {files}")
     }
 }
 
@@ -308,8 +318,88 @@ static REPEATED_CITY: FaultText = FaultText {
     remedy: "List each city once; do not repeat the first city at the end.",
 };
 
-/// The faults of problem, tour and solution files, then those of parameter files and those of an initial tour.
-pub fn faults() -> [&'static FaultText; 26]
+static CHECKED_WRONG_COUNT: FaultText = FaultText {
+    files: CHECK,
+    number: "",
+    name: "WrongCount",
+    values: "",
+    when: "the tour does not have as many cities as the problem",
+    causes: "the tour of another problem, or a missing or duplicate city",
+    remedy: "Give a tour of this problem, or list each of its cities once.",
+};
+
+static CHECKED_OUT_OF_RANGE: FaultText = FaultText {
+    files: CHECK,
+    number: "",
+    name: "OutOfRange",
+    values: "",
+    when: "the city at this place of the tour is not a city of the problem",
+    causes: "cities numbered from 0, or the tour of another problem",
+    remedy: "Number the cities from 1, as the problem does.",
+};
+
+static CHECKED_REPEATED_CITY: FaultText = FaultText {
+    files: CHECK,
+    number: "",
+    name: "RepeatedCity",
+    values: "",
+    when: "the city at this place of the tour already occurs earlier in it",
+    causes: "the first city repeated at the end, or a duplicate line",
+    remedy: "List each city once; do not repeat the first city at the end.",
+};
+
+static BAD_CUSTOMER: FaultText = FaultText {
+    files: CHECKSOL,
+    number: "",
+    name: "BadCustomer",
+    values: "",
+    when: "a number on a route is not a customer of the problem",
+    causes: "the depot on a route, node numbers instead of customer numbers, or the solution of another problem",
+    remedy: "List only customers, numbered from 1: customer k is the k-th node that is not the depot.",
+};
+
+static SERVED_TWICE: FaultText = FaultText {
+    files: CHECKSOL,
+    number: "",
+    name: "ServedTwice",
+    values: "",
+    when: "a customer occurs more than once on the routes",
+    causes: "a route listed twice, or the depot at both ends of a route",
+    remedy: "Keep the customer on one route, once; do not list the depot.",
+};
+
+static OVER_CAPACITY: FaultText = FaultText {
+    files: CHECKSOL,
+    number: "",
+    name: "OverCapacity",
+    values: "",
+    when: "the demands of a route exceed the capacity",
+    causes: "too many customers on the route, node numbers instead of customer numbers, or a wrong CAPACITY",
+    remedy: "Move customers of this route to another route that has room for them, or to a new one.",
+};
+
+static NOT_SERVED: FaultText = FaultText {
+    files: CHECKSOL,
+    number: "",
+    name: "NotServed",
+    values: "",
+    when: "no route contains this customer",
+    causes: "a missing route, or node numbers instead of customer numbers",
+    remedy: "Add the customer to a route that has room for it, or to a new one.",
+};
+
+static WRONG_COST: FaultText = FaultText {
+    files: CHECKSOL,
+    number: "",
+    name: "WrongCost",
+    values: "",
+    when: "the cost in the file is not the total length of all routes, each from the depot and back",
+    causes: "distances that were not rounded, or a cost computed before the last change of the routes",
+    remedy: "Write the counted cost as Cost.",
+};
+
+/// The faults of problem, tour and solution files, then those of parameter files, of an initial tour and of verdicts.
+pub fn faults() -> [&'static FaultText; 34]
     ensures { map (λ fault. named fault.now) result ≡ faults }
 {
     [
@@ -339,6 +429,14 @@ pub fn faults() -> [&'static FaultText; 26]
         &WRONG_COUNT,
         &OUT_OF_RANGE,
         &REPEATED_CITY,
+        &CHECKED_WRONG_COUNT,
+        &CHECKED_OUT_OF_RANGE,
+        &CHECKED_REPEATED_CITY,
+        &BAD_CUSTOMER,
+        &SERVED_TWICE,
+        &OVER_CAPACITY,
+        &NOT_SERVED,
+        &WRONG_COST,
     ]
 }
 

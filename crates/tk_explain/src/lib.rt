@@ -10,7 +10,6 @@ mod page;
 mod remark;
 mod sound;
 mod unread;
-mod verdict_table;
 mod whole;
 mod whole_file;
 

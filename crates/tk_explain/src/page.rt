@@ -68,12 +68,6 @@ impl Page {
         self.begin()
     }
 
-    /// Adds a line, and a blank line before it unless it is the first one.
-    pub fn part<D: fmt::Display>(&mut self, line: &D) -> Result<(), AllocError> {
-        self.begin()?;
-        self.line(line)
-    }
-
     /// Adds a text after a label.
     pub fn labelled(&mut self, label: &str, text: &str) -> Result<(), AllocError> {
         self.begin()?;

@@ -7,7 +7,7 @@ use Rattle.tk_explain.specs.Faults.{fault_named, faults, named}
 pub offset_bounds-faults-place : goal.offset_bounds-faults-place
 offset_bounds-faults-place c =
     let at : slice_get faults c.match-fault.place ≡ Some (fault_named c.args.fault.now) = search rules in
-    let low : c.match-fault.place < 26 = slice_get_within faults c.match-fault.place _ at in omega (arith, low)
+    let low : c.match-fault.place < 34 = slice_get_within faults c.match-fault.place _ at in omega (arith, low)
 
 pub bounds-faults-place : goal.bounds-faults-place
 bounds-faults-place c =
