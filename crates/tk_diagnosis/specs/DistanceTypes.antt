@@ -2,12 +2,11 @@
 use Rattle.std.specs.Prelude.{ℕ, Bool, ◌||◌, List, codes}
 use Rattle.tk_words.specs.Words.{spells}
 
-abbrev pub is_in_space : List ℕ → Bool
-is_in_space word = spells word (codes "EUC_3D") || spells word (codes "MAX_3D") || spells word (codes "MAN_3D")
-
-abbrev pub is_of_crystals : List ℕ → Bool
-is_of_crystals word = spells word (codes "XRAY1") || spells word (codes "XRAY2")
-
--- GEO, points with three coordinates, or crystals
 abbrev pub is_converted : List ℕ → Bool
-is_converted word = spells word (codes "GEO") || is_in_space word || is_of_crystals word
+is_converted word =
+    spells word (codes "GEO")
+    || spells word (codes "EUC_3D")
+    || spells word (codes "MAX_3D")
+    || spells word (codes "MAN_3D")
+    || spells word (codes "XRAY1")
+    || spells word (codes "XRAY2")

@@ -12,7 +12,7 @@ use tk_params::key_of;
 use tk_words::{blank, keyword_of};
 
 /// The format of a file that another program wrote.
-#[derive(Clone, Copy, PartialEq, Eq)]
+#[derive(Clone, Copy)]
 pub enum Foreign {
     /// Columns that are separated by commas or semicolons.
     Csv,

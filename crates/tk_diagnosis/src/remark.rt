@@ -7,7 +7,7 @@ use tk_params::key_of;
 use tk_words::{Keyword, spelled};
 
 /// A remark on a file without a fault.
-#[derive(Clone, Copy, PartialEq, Eq)]
+#[derive(Clone, Copy)]
 pub enum Remark {
     /// City 0 is in a tour.
     City0,
@@ -48,7 +48,7 @@ impl Remark {
 
     /// The first line that the remark is about.
     pub fn line(self, text: &[u8]) -> Option<u64> {
-        if self == Remark::City0 {
+        if let Remark::City0 = self {
             let index = node_index(text, Keyword::TourSection, 0)?;
             return Some(number_at(text, Keyword::TourSection, index)?.line);
         }

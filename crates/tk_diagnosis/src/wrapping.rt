@@ -8,7 +8,7 @@ use crate::sentence::Sentence;
 use crate::spot::Here;
 
 /// Why a file is not a text that can be read.
-#[derive(Clone, Copy, PartialEq, Eq)]
+#[derive(Clone, Copy)]
 pub enum Wrapping {
     /// Compressed by gzip.
     Gzip,

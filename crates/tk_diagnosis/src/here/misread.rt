@@ -5,7 +5,7 @@ ghost use Rattle.tk_diagnosis.specs.Misread as Tokens;
 use tk_words::{Keyword, spelled};
 
 /// What a token is that is not a number of the kind that is expected.
-#[derive(Clone, Copy, PartialEq, Eq)]
+#[derive(Clone, Copy)]
 pub enum Misread {
     /// A number with a comma.
     Comma,
@@ -75,46 +75,32 @@ pub fn read_as(misread: Misread, is_integer: bool) -> &'static str {
     }
 }
 
-/// What to do about such a token where a section needs an integer. A demand is at index 1 of its entry.
-pub fn remedy_of(misread: Misread, section: Keyword, field: u64) -> &'static str {
-    match misread {
-        Misread::Decimal => remedy_of_decimal(section, field),
-        Misread::Infinite if section == Keyword::EdgeWeightSection => {
-            "Write a finite number that is larger than all others, such as 1000000."
-        }
-        Misread::Word => "Write an integer, with blanks between the numbers.",
-        _ => remedy_of_sign(misread),
-    }
-}
-
-/// What to do about a token that is not a number, whatever the section.
-pub fn remedy_of_sign(misread: Misread) -> &'static str {
-    match misread {
-        Misread::Comma => {
-            "Write a decimal point instead of the comma, or a blank if it separates two numbers."
-        }
-        Misread::Comment => {
-            "Remove the comment, since a section contains only numbers. It can be a COMMENT line before the section."
-        }
-        _ => {
-            "A program printed this because a value was missing or undefined. Write the value, or leave the node out \
-            of every section and lower DIMENSION."
-        }
-    }
-}
-
 /// What to do about demands that are not integers.
 pub const DEMANDS: &str =
     "Multiply CAPACITY and all demands by the same factor, such as 100, and round them to integers.";
 
-/// What to do about a number with a decimal point where an integer is expected.
-fn remedy_of_decimal(section: Keyword, field: u64) -> &'static str {
-    match (section, field) {
-        (Keyword::EdgeWeightSection, _) => {
+/// What to do about such a token where a section needs an integer. A demand is at index 1 of its entry.
+pub fn remedy_of(misread: Misread, section: Keyword, field: u64) -> &'static str {
+    match (misread, section, field) {
+        (Misread::Comma, _, _) => {
+            "Write a decimal point instead of the comma, or a blank if it separates two numbers."
+        }
+        (Misread::Comment, _, _) => {
+            "Remove the comment, since a section contains only numbers. It can be a COMMENT line before the section."
+        }
+        (Misread::Infinite, Keyword::EdgeWeightSection, _) => {
+            "Write a finite number that is larger than all others, such as 1000000."
+        }
+        (Misread::Undefined | Misread::Infinite, _, _) => {
+            "A program printed this because a value was missing or undefined. Write the value, or leave the node out \
+            of every section and lower DIMENSION."
+        }
+        (Misread::Decimal, Keyword::EdgeWeightSection, _) => {
             "Multiply all weights by the same factor, such as 100, and round them to integers."
         }
-        (Keyword::DemandSection, 1) => DEMANDS,
-        _ =>
+        (Misread::Decimal, Keyword::DemandSection, 1) => DEMANDS,
+        (Misread::Decimal, _, _) =>
             "Write an integer. If this is a coordinate, there is a number missing or extra before it.",
+        (Misread::Word, _, _) => "Write an integer, with blanks between the numbers.",
     }
 }

@@ -108,7 +108,7 @@ fn remedy_of_header(kind: Kind, word: Keyword, value: &[u8]) -> &'static str {
         Keyword::Capacity if is_large => {
             "Use a larger unit: divide CAPACITY and all demands by the same number, and round them to integers."
         }
-        Keyword::Capacity if misread_of(value) == Misread::Decimal => DEMANDS,
+        Keyword::Capacity if matches!(misread_of(value), Misread::Decimal) => DEMANDS,
         Keyword::Dimension if is_large && kind == Kind::Tour => {
             "Larger tours are not supported: use one of at most 1,000,000 cities."
         }

@@ -1,6 +1,6 @@
 //! Keywords and values of TSPLIB that tourkit does not support.
 ghost use Rattle.std.specs.Prelude.{◌≡◌};
-ghost use Rattle.tk_diagnosis.specs.DistanceTypes.{is_converted, is_in_space, is_of_crystals};
+ghost use Rattle.tk_diagnosis.specs.DistanceTypes.{is_converted};
 
 use crate::kind::Kind;
 use crate::lines::{first_token, header, header_line, keyword_at, value_behind};
@@ -65,21 +65,12 @@ fn other_distances<'a>(spot: &Spot<'a>) -> Here<'a> {
 fn is_converted(word: &[u8]) -> bool
     ensures { result ≡ is_converted word.now }
 {
-    spelled(word, b"GEO") || is_in_space(word) || is_of_crystals(word)
-}
-
-/// Whether this distance type is one of points with three coordinates.
-fn is_in_space(word: &[u8]) -> bool
-    ensures { result ≡ is_in_space word.now }
-{
-    spelled(word, b"EUC_3D") || spelled(word, b"MAX_3D") || spelled(word, b"MAN_3D")
-}
-
-/// Whether this distance type is one of crystallography.
-fn is_of_crystals(word: &[u8]) -> bool
-    ensures { result ≡ is_of_crystals word.now }
-{
-    spelled(word, b"XRAY1") || spelled(word, b"XRAY2")
+    spelled(word, b"GEO")
+        || spelled(word, b"EUC_3D")
+        || spelled(word, b"MAX_3D")
+        || spelled(word, b"MAN_3D")
+        || spelled(word, b"XRAY1")
+        || spelled(word, b"XRAY2")
 }
 
 /// The diagnosis of a header or a section that is not supported at all.
