@@ -22,8 +22,8 @@ def near(problem: Union[Problem, File, Bytes], k: int = 5) -> memoryview:
         [[3, 4], [3, 4], [1, 2], [1, 2]]
     """
     asked, k = problem_of(problem), within("k", k, 1, CANDIDATE_LIMIT)
-    n = asked.guess_size()
-    entries = filled("I", n * min(k, n - 1), lambda *out: asked.call("near", k, *out))
+    n = asked._guess_size()
+    entries = filled("I", n * min(k, n - 1), lambda *out: asked._call("near", k, *out))
     return shaped(entries, near_shape(len(entries), k))
 
 
@@ -37,7 +37,7 @@ def distances(problem: Union[Problem, File, Bytes]) -> memoryview:
     """
     asked = problem_of(problem)
     n = asked.size
-    return shaped(filled("q", n * n, asked.write_distances), [n, n])
+    return shaped(filled("q", n * n, asked._write_distances), [n, n])
 
 
 def filled(letter: str, count: int, fill: Callable[..., Answer]) -> memoryview:

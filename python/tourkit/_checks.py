@@ -33,7 +33,7 @@ def check(
 def verdict_on_list(problem: Problem, tour: Any) -> TourVerdict:
     """The verdict on a list of cities."""
     cities, given = cities_of(tour)
-    answer = problem.call("check", *input_slice(cities.tobytes(), cities.typecode))
+    answer = problem._call("check", *input_slice(cities.tobytes(), cities.typecode))
     if answer.status != FOUND:
         return TourVerdict(True, cities=len(cities), length=answer.length)
     fault = FAULTS[answer.kind]
@@ -72,5 +72,5 @@ def verdict_on_lists(problem: Problem, routes: Any) -> RouteVerdict:
 
 def verdict_on(name: str, kind: Type[V], problem: Problem, claim: Text) -> V:
     """The verdict that a function of the library returns on a text."""
-    _, (line,) = write_texts(name, [problem.source, claim], (*problem.source.words, *claim.words), [LINE])
+    _, (line,) = write_texts(name, [problem._source, claim], (*problem._source.words, *claim.words), [LINE])
     return verdict_in(line, kind)

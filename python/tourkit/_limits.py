@@ -13,6 +13,9 @@ TABLE_LIMIT = 5_000
 COORDINATE_LIMIT = 1_000_000_000
 DISTANCE_LIMIT = 4_000_000_000
 
+# The maximum capacity and demand.
+CAPACITY_LIMIT = 2_000_000_000
+
 # The maximum length of a near list.
 CANDIDATE_LIMIT = 100
 

@@ -17,6 +17,6 @@ NUMBER = 11
 def matrix(problem: Union[Problem, File, Bytes]) -> bytes:
     """The problem as a TSPLIB file that lists every distance, in the format FULL_MATRIX. The problem can have at most 5,000 cities."""
     asked = problem_of(problem)
-    n = min(asked.guess_size(), TABLE_LIMIT)
-    _, (text,) = write_texts("tourkit_matrix", [asked.source], asked.source.words, [HEADER + NUMBER * n * n])
+    n = min(asked._guess_size(), TABLE_LIMIT)
+    _, (text,) = write_texts("tourkit_matrix", [asked._source], asked._source.words, [HEADER + NUMBER * n * n])
     return text

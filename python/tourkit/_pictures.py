@@ -40,9 +40,9 @@ def plot(problem: Union[Problem, File, Bytes], claim: Optional[Claim] = None) ->
     """
     asked = problem_of(problem)
     text = Text(b"", "claim") if claim is None else claimed_text(claim, "claim") or listed_text(asked, claim)
-    words = (*asked.source.words, *text.words, claim is not None)
-    sizes = [FRAME + CITY * asked.guess_size(), LINE]
-    answer, (svg, line) = write_texts("tourkit_plot", [asked.source, text], words, sizes, message=1)
+    words = (*asked._source.words, *text.words, claim is not None)
+    sizes = [FRAME + CITY * asked._guess_size(), LINE]
+    answer, (svg, line) = write_texts("tourkit_plot", [asked._source, text], words, sizes, message=1)
     if answer.status == FOUND:
         verdict: Verdict = verdict_in(line, TourVerdict, RouteVerdict)
         raise refused_claim(verdict, text.file)

@@ -4,7 +4,7 @@ from __future__ import annotations
 
 import decimal
 from array import array
-from typing import Any, Iterable, Sequence, Tuple
+from typing import Any, Iterable, List, Sequence, Tuple
 
 from ._library import input_slice
 from ._limits import CITY_LIMIT, COORDINATE_LIMIT
@@ -34,6 +34,11 @@ def units(coordinate: Any) -> int:
     return found
 
 
+def units_of(word: bytes) -> int:
+    """The coordinate that a word of a problem file states, in units."""
+    return int(word) * SCALE if word.isdigit() else units(word.decode())
+
+
 def decimal_of(number: int) -> str:
     """A number of units as a decimal number."""
     whole, part = divmod(abs(number), SCALE)
@@ -47,17 +52,34 @@ class Points:
 
     form = "points"
 
-    def __init__(self, points: Iterable[Sequence[Any]], kind: str) -> None:
+    def __init__(self, pairs: Sequence[Tuple[int, int]], kind: str) -> None:
+        """The cities at these pairs of coordinates, in units."""
+        self.kind = kind
+        self.size = len(pairs)
+        self._xs = array("q", [x for x, _ in pairs]).tobytes()
+        self._ys = array("q", [y for _, y in pairs]).tobytes()
+
+    @classmethod
+    def given(cls, points: Iterable[Sequence[Any]], kind: str) -> Points:
+        """The cities at these points, which the caller has passed."""
         if kind not in KINDS:
             raise ValueError(f"the kind of distances must be one of {', '.join(KINDS)}, not {kind!r}")
         listed = points.tolist() if hasattr(points, "tolist") else points
         pairs = [(units(x), units(y)) for x, y in listed]
         if not 2 <= len(pairs) <= CITY_LIMIT:
             raise ValueError(f"a problem must have 2 to {CITY_LIMIT:,} cities, not {len(pairs):,}")
-        self.kind = kind
-        self.size = len(pairs)
-        self._xs = array("q", [x for x, _ in pairs]).tobytes()
-        self._ys = array("q", [y for _, y in pairs]).tobytes()
+        return cls(pairs, kind)
+
+    @classmethod
+    def read(cls, words: List[bytes], kind: str) -> Points:
+        """The cities of a section: the number of each, and its coordinates. Cities may be in any order."""
+        rows = sorted(zip(map(int, words[::3]), words[1::3], words[2::3]))
+        return cls([(units_of(x), units_of(y)) for _, x, y in rows], kind)
+
+    def pairs(self) -> Tuple[Tuple[float, float], ...]:
+        """The coordinates, as the nearest floats."""
+        xs, ys = array("q", self._xs), array("q", self._ys)
+        return tuple((x / SCALE, y / SCALE) for x, y in zip(xs, ys))
 
     @property
     def words(self) -> Tuple[Any, ...]:

@@ -5,18 +5,20 @@ from __future__ import annotations
 import functools
 import math
 import re
-from typing import Any, Iterable, Optional, Sequence, Union
+from typing import Any, Dict, Iterable, Optional, Sequence, Tuple, Union
 
+from ._contents import Contents
 from ._library import REFUSED, Answer, call, output_slice
 from ._limits import CITY_LIMIT
 from ._points import Points
+from ._room import room_for
+from ._service import Service, given_service, read_service
 from ._text import Bytes, File, Text, text_of
 from ._weights import Weights
 from ._writing import LINE, write_texts
 
-# The lines of a problem file that state the number of cities, and the depot.
+# The line of a problem file that states the number of cities.
 DIMENSION = re.compile(rb"^[ \t\r]*DIMENSION[ \t\r]*:?[ \t\r]*\+?(\d{1,18})\b", re.IGNORECASE | re.MULTILINE)
-DEPOT = re.compile(rb"^[ \t\r]*DEPOT_SECTION\b[\s:]*\+?(\d{1,18})\b", re.IGNORECASE | re.MULTILINE)
 
 # The number of bytes that are searched for the DIMENSION line. A search of the whole text would take long.
 HEAD = 1 << 16
@@ -32,7 +34,8 @@ class Problem:
     """
 
     _given: Union[Text, Points, Weights]
-    _name = _demands = ""
+    _name = "Unnamed"
+    _given_service: Optional[Service] = None
 
     def __init__(self, given: Union[File, Bytes]) -> None:
         self._given = text_of(given, "problem")
@@ -54,7 +57,7 @@ class Problem:
         The first point is city 1. A coordinate has the value that `str` prints, up to the ninth decimal place, as in a problem file.
         With the demands of all cities, including that of the depot, and a capacity, the problem is a CVRP.
         """
-        return cls._of(Points(points, kind), name, demands, capacity, depot)
+        return cls._of(Points.given(points, kind), name, demands, capacity, depot)
 
     @classmethod
     def from_matrix(
@@ -83,78 +86,137 @@ class Problem:
     ) -> Problem:
         """A problem of these cities. The text of a CVRP is read here, so that its faults are reported at once."""
         problem = cls.__new__(cls)
-        problem._given, problem._name = cities, " ".join(name.split())
-        if demands is None and capacity is None:
-            return problem
-        if demands is None or capacity is None:
-            raise ValueError("a CVRP needs both demands and a capacity")
-        listed = list(demands)
-        if len(listed) != cities.size:
-            raise ValueError(f"{len(listed):,} demands for {cities.size:,} cities")
-        lines = "".join(f"{city} {demand}\n" for city, demand in enumerate(listed, 1))
-        problem._demands = f"CAPACITY : {capacity}\nDEMAND_SECTION\n{lines}DEPOT_SECTION\n{depot}\n-1\n"
-        problem._read()
+        problem._given, problem._name = cities, " ".join(name.split()) or "Unnamed"
+        problem._given_service = given_service(demands, capacity, depot, cities.size)
+        if problem._given_service:
+            problem._read()
         return problem
 
-    @functools.cached_property
-    def source(self) -> Text:
-        """The text of the problem, which is written when it is first needed."""
+    @property
+    def name(self) -> str:
+        """The name. U+FFFD replaces bytes that are not UTF-8."""
+        if not isinstance(self._given, Text):
+            return self._name
+        return self._contents.value(b"NAME").decode(errors="replace") or "Unnamed"
+
+    @property
+    def kind(self) -> str:
+        """`"tsp"` or `"cvrp"`."""
+        return "cvrp" if self._service else "tsp"
+
+    @property
+    def distance_type(self) -> str:
+        """The distance type: EUC_2D, CEIL_2D, MAN_2D, MAX_2D or ATT for cities with coordinates, otherwise EXPLICIT."""
         if isinstance(self._given, Text):
-            return self._given
-        kind = "CVRP" if self._demands else "TSP"
-        header = f"NAME : {self._name}\nTYPE : {kind}\nDIMENSION : {self.size}\n"
-        written = f"{header}{self._given.sections()}{self._demands}EOF\n"
-        return Text(written.encode(), "problem")
+            return self._contents.word(b"EDGE_WEIGHT_TYPE")
+        return self._given.kind
+
+    @functools.cached_property
+    def points(self) -> Optional[Tuple[Tuple[float, float], ...]]:
+        """The coordinates of each city, from city 1, as the nearest floats; `None` if the distances are explicit."""
+        return self._points.pairs() if self._points else None
+
+    @functools.cached_property
+    def weights(self) -> Optional[memoryview]:
+        """Explicit distances as an array of n rows of n 64-bit integers, which cannot be changed; `None` if there are coordinates."""
+        if self._points:
+            return None
+        numbers = memoryview(room_for(8 * self.size * self.size)).cast("B").cast("q")
+        self._write_distances(*output_slice(numbers))
+        return numbers.cast("B").cast("q", [self.size, self.size]).toreadonly()
 
     @property
-    def text(self) -> bytes:
-        """The problem as the text of a file."""
-        return self.source.data
+    def demands(self) -> Optional[Tuple[int, ...]]:
+        """The demand of each city of a CVRP, from city 1; `None` for a TSP."""
+        return self._service.demands if self._service else None
 
     @property
-    def file(self) -> Optional[str]:
-        """The file that the problem was read from; `None` if it was not read from a file."""
-        return self.source.file if isinstance(self._given, Text) else None
+    def capacity(self) -> Optional[int]:
+        """The capacity of a vehicle of a CVRP; `None` for a TSP."""
+        return self._service.capacity if self._service else None
+
+    @property
+    def depot(self) -> Optional[int]:
+        """The city that is the depot of a CVRP; `None` for a TSP."""
+        return self._service.depot if self._service else None
 
     @functools.cached_property
     def size(self) -> int:
         """The number of cities."""
         return self._read() if isinstance(self._given, Text) else self._given.size
 
+    @property
+    def text(self) -> bytes:
+        """The problem as the text of a file."""
+        return self._source.data
+
+    @property
+    def file(self) -> Optional[str]:
+        """The file that the problem was read from; `None` if it was not read from a file."""
+        return self._source.file if isinstance(self._given, Text) else None
+
     @functools.cached_property
-    def depot(self) -> Optional[int]:
-        """The city that is the depot of a CVRP; `None` for a TSP."""
+    def _source(self) -> Text:
+        """The text of the problem, which is written when it is first needed."""
+        if isinstance(self._given, Text):
+            return self._given
+        header = f"NAME : {self._name}\nTYPE : {self.kind.upper()}\nDIMENSION : {self.size}\n"
+        service = self._service.sections() if self._service else ""
+        return Text(f"{header}{self._given.sections()}{service}EOF\n".encode(), "problem")
+
+    @functools.cached_property
+    def _contents(self) -> Contents:
+        """The parts of the text, after the library has accepted it."""
         self._read()
-        found = DEPOT.search(self.text)
-        return int(found[1]) if found else None
+        return Contents(self.text)
+
+    @functools.cached_property
+    def _points(self) -> Optional[Points]:
+        """The coordinates; `None` if the distances are explicit."""
+        if not isinstance(self._given, Text):
+            return self._given if isinstance(self._given, Points) else None
+        explicit = self.distance_type == "EXPLICIT"
+        return None if explicit else Points.read(self._contents.numbers(b"NODE_COORD_SECTION"), self.distance_type)
+
+    @functools.cached_property
+    def _service(self) -> Optional[Service]:
+        """The demands, the capacity and the depot of a CVRP; `None` for a TSP."""
+        if not isinstance(self._given, Text):
+            return self._given_service
+        return read_service(self._contents) if self._contents.word(b"TYPE") == "CVRP" else None
 
     def _read(self) -> int:
         """Lets the library read the text, and returns the number of cities."""
-        return math.isqrt(self.write_distances(*output_slice(b"")).needed)
+        return math.isqrt(self._write_distances(*output_slice(b"")).needed)
 
-    def guess_size(self) -> int:
+    def _guess_size(self) -> int:
         """An estimate of the number of cities, which may be wrong."""
         if not isinstance(self._given, Text):
             return self.size
         found = DIMENSION.search(self.text, 0, HEAD)
         return min(int(found[1]), CITY_LIMIT) if found else 1
 
-    def call(self, task: str, *arguments: Any) -> Answer:
+    def _call(self, task: str, *arguments: Any) -> Answer:
         """Calls the function on arrays that fits the form of the problem."""
         form = "cities" if isinstance(self._given, Text) else self._given.form
         return self._accepted(call(f"tourkit_{task}_{form}", *self._given.words, *arguments))
 
-    def write_distances(self, *out: Any) -> Answer:
+    def _write_distances(self, *out: Any) -> Answer:
         """Writes the distances of all pairs of cities to an array, if the array has the right size."""
-        return self._accepted(call("tourkit_distances", *self.source.words, *out))
+        return self._accepted(call("tourkit_distances", *self._source.words, *out))
 
     def _accepted(self, answer: Answer) -> Answer:
         """The answer of a function on arrays. Such functions write no messages, so if the text was rejected, another function is called to
         get the message."""
         if answer.status == REFUSED:
-            write_texts("tourkit_near", [self.source], (*self.source.words, 1), [LINE])
+            write_texts("tourkit_near", [self._source], (*self._source.words, 1), [LINE])
             raise ValueError(f"{self!r} was rejected")
         return answer
+
+    def __getstate__(self) -> Dict[str, Any]:
+        """The members to pickle, without those that can be computed again."""
+        kept = vars(self).items()
+        return {name: value for name, value in kept if not isinstance(getattr(type(self), name, None), functools.cached_property)}
 
     def __repr__(self) -> str:
         if isinstance(self._given, Text):

@@ -90,7 +90,7 @@ def search_piece(problem: Problem, keys: Dict[str, Any], start: Optional[Text], 
     names = {"PROBLEM_FILE": "-"} if start is None else {"PROBLEM_FILE": "-", "INITIAL_TOUR_FILE": "-"}
     lines = (f"{key} = {value}\n" for key, value in {**names, **keys}.items())
     parameters = Text("".join(lines).encode(), "parameters")
-    told, text = search(parameters, problem.source, start or Text(b"", "tour"), runs)
+    told, text = search(parameters, problem._source, start or Text(b"", "tour"), runs)
     return result_of(told, text, problem)
 
 

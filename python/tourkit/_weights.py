@@ -49,6 +49,7 @@ class Weights:
     """Cities with distances: the lower triangle of a matrix row by row, without its diagonal."""
 
     form = "weights"
+    kind = "EXPLICIT"
 
     def __init__(self, matrix: Iterable[Sequence[int]]) -> None:
         n, numbers = read_matrix(matrix)

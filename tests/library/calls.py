@@ -155,7 +155,7 @@ def try_limits():
     source = (pathlib.Path(__file__).resolve().parents[2] / "crates/tk_problem/src/limits.rt").read_text()
     known = {name: int(number.replace("_", "")) for name, number in re.findall(r"pub const (\w+): \w+ = ([\d_]+);", source)}
     ours = {name: number for name, number in vars(_limits).items() if name.endswith("_LIMIT")}
-    assert len(ours) == 6 and ours.items() <= known.items(), (ours, known)
+    assert len(ours) == 7 and ours.items() <= known.items(), (ours, known)
 
 
 def try_arguments_out_of_their_limits():

@@ -1,0 +1,50 @@
+"""The headers and sections of problem files. The library must have accepted a file before it is taken apart here."""
+
+from __future__ import annotations
+
+import re
+from typing import Dict, Iterator, List, Tuple
+
+# A keyword at the start of a text, and at the start of a later line.
+FIRST_KEYWORD = re.compile(rb"[ \t\r]*([A-Za-z]\w*)")
+LATER_KEYWORD = re.compile(rb"\n[ \t\r]*([A-Za-z]\w*)")
+
+# The sections that EOF may end on the line of their last number.
+LISTS = (b"DEPOT_SECTION", b"TOUR_SECTION")
+
+BLANKS = b" \t\r\n"
+
+
+def parts_of(text: bytes) -> Iterator[Tuple[bytes, int, int]]:
+    """The keywords of an accepted text in capital letters, each with the start and the end of its header value or section."""
+    mark = FIRST_KEYWORD.match(text) or LATER_KEYWORD.search(text)
+    while mark and mark[1].upper() != b"EOF":
+        later = LATER_KEYWORD.search(text, mark.end())
+        yield mark[1].upper(), mark.end(), later.start() if later else len(text)
+        mark = later
+
+
+class Contents:
+    """The headers and sections of an accepted text, by their keywords."""
+
+    def __init__(self, text: bytes) -> None:
+        self._text = text
+        self._places: Dict[bytes, Tuple[int, int]] = {}
+        for keyword, start, end in parts_of(text):
+            self._places[keyword] = (start, end)
+            if keyword in LISTS and b"EOF" in text[start:end].upper():
+                break
+
+    def value(self, keyword: bytes) -> bytes:
+        """The value of a header; no bytes if it is missing."""
+        start, end = self._places.get(keyword, (0, 0))
+        found = self._text[start:end].strip(BLANKS)
+        return found[1:].lstrip(BLANKS) if found.startswith(b":") else found
+
+    def word(self, keyword: bytes) -> str:
+        """The first word of the value of a header, in capital letters."""
+        return self.value(keyword).split()[0].upper().decode()
+
+    def numbers(self, keyword: bytes) -> List[bytes]:
+        """The words of a section."""
+        return self.value(keyword).split()
