@@ -6,8 +6,9 @@ import math
 import struct
 from typing import Callable, List, Union
 
+from ._arguments import within
 from ._library import NO_ROOM, Answer, output_slice
-from ._limits import CANDIDATE_LIMIT, within
+from ._limits import CANDIDATE_LIMIT
 from ._problem import Problem, problem_of
 from ._room import room_for
 from ._text import Bytes, File

@@ -4,7 +4,7 @@ from __future__ import annotations
 
 from typing import Any, Iterable, Sequence, Type, Union
 
-from ._claims import as_in_texts, cities_of, claimed_text, solution_text
+from ._claims import as_in_texts, cities_of, claimed_text, routes_of, solution_text
 from ._library import FOUND, input_slice
 from ._problem import Problem, problem_of
 from ._results import Routes, Tour
@@ -30,9 +30,9 @@ def check(
     return verdict_on("tourkit_check", TourVerdict, asked, text) if text else verdict_on_list(asked, tour)
 
 
-def verdict_on_list(problem: Problem, tour: Any) -> TourVerdict:
-    """The verdict on a list of cities."""
-    cities, given = cities_of(tour)
+def verdict_on_list(problem: Problem, tour: Any, name: str = "tour") -> TourVerdict:
+    """The verdict on a list of cities, which is the argument of this name."""
+    cities, given = cities_of(tour, name)
     answer = problem._call("check", *input_slice(cities.tobytes(), cities.typecode))
     if answer.status != FOUND:
         return TourVerdict(True, cities=len(cities), length=answer.length)
@@ -58,10 +58,11 @@ def check_solution(
     return verdict_on("tourkit_checksol", RouteVerdict, asked, text) if text else verdict_on_lists(asked, solution)
 
 
-def verdict_on_lists(problem: Problem, routes: Any) -> RouteVerdict:
-    """The verdict on lists of customers. The cost is checked last, so if it is reported as wrong, there is no other fault."""
-    listed = [list(route) for route in routes]
-    found = verdict_on("tourkit_checksol", RouteVerdict, problem, Text(solution_text(listed), "solution"))
+def verdict_on_lists(problem: Problem, routes: Any, name: str = "solution") -> RouteVerdict:
+    """The verdict on lists of customers, which are the argument of this name. The cost is checked last, so if it is reported as wrong, there
+    is no other fault."""
+    listed = routes_of(routes, name)
+    found = verdict_on("tourkit_checksol", RouteVerdict, problem, Text(solution_text(listed, name), "solution"))
     if found.fault == "WrongCost":
         return RouteVerdict(True, routes=sum(1 for route in listed if route), cost=found.counted)
     if found.fault == "BadCustomer" and found.route:

@@ -1,9 +1,4 @@
-"""The limits of problems, as in crates/tk_problem/src/limits.rt, and the check that an argument is within limits."""
-
-from __future__ import annotations
-
-import operator
-from typing import SupportsIndex
+"""The limits of problems, as in crates/tk_problem/src/limits.rt."""
 
 # The maximum number of cities of a problem, and of a problem with a table of distances.
 CITY_LIMIT = 100_000
@@ -21,11 +16,3 @@ CANDIDATE_LIMIT = 100
 
 # The maximum number of bytes of a problem, a tour or a solution.
 TEXT_LIMIT = 1_073_741_824
-
-
-def within(name: str, number: SupportsIndex, least: int, most: int) -> int:
-    """An integer argument, which must be within these limits."""
-    found = operator.index(number)
-    if not least <= found <= most:
-        raise ValueError(f"{name} must be from {least:,} to {most:,}, not {found:,}")
-    return found

@@ -7,12 +7,13 @@ import re
 from dataclasses import dataclass, field
 from typing import Any, Iterable, Optional, Union
 
-from ._checks import check, check_solution
-from ._claims import Claim, claimed_text, solution_text, tour_text
+from ._arguments import items_of
+from ._checks import verdict_on_list, verdict_on_lists
+from ._claims import Claim, claimed_text, refused_list, routes_of, solution_text, tour_text
 from ._library import FOUND
 from ._problem import Problem, problem_of
 from ._refused import Refused
-from ._text import Bytes, File, Text
+from ._text import ACCEPTED, Bytes, File, Text
 from ._verdicts import RouteVerdict, TourVerdict, Verdict, verdict_in
 from ._writing import LINE, write_texts
 
@@ -45,25 +46,21 @@ def plot(problem: Union[Problem, File, Bytes], claim: Optional[Claim] = None) ->
     answer, (svg, line) = write_texts("tourkit_plot", [asked._source, text], words, sizes, message=1)
     if answer.status == FOUND:
         verdict: Verdict = verdict_in(line, TourVerdict, RouteVerdict)
-        raise refused_claim(verdict, text.file)
+        raise Refused(str(verdict), None, verdict.fault, None, text.file)
     title = re.search(rb"<title>(.*)</title>", svg)
     return Picture(html.unescape(title[1].decode()) if title else "", svg)
 
 
 def listed_text(problem: Problem, claim: Any) -> Text:
     """The text of a list of cities, or of a list of routes, which must not have a fault."""
-    listed = list(claim)
+    listed = items_of("claim", claim, ACCEPTED["claim"])
     if listed and all(isinstance(route, Iterable) for route in listed):
-        routes = check_solution(problem, listed)
-        if not routes:
-            raise refused_claim(routes)
-        return Text(solution_text(listed, routes.cost or 0), "claim")
-    tour = check(problem, listed)
+        routes = routes_of(listed, "claim")
+        served = verdict_on_lists(problem, routes, "claim")
+        if not served:
+            raise refused_list("claim", served)
+        return Text(solution_text(routes, "claim", served.cost or 0), "claim")
+    tour = verdict_on_list(problem, listed, "claim")
     if not tour:
-        raise refused_claim(tour)
-    return Text(tour_text(listed), "claim")
-
-
-def refused_claim(verdict: Verdict, file: Optional[str] = None) -> Refused:
-    """The exception for a list that is not a tour, or for an invalid solution."""
-    return Refused(str(verdict), None, verdict.fault, None, file)
+        raise refused_list("claim", tour)
+    return Text(tour_text(listed, "claim"), "claim")

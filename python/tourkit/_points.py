@@ -6,6 +6,7 @@ import decimal
 from array import array
 from typing import Any, Iterable, List, Sequence, Tuple
 
+from ._arguments import items_of, text_argument
 from ._library import input_slice
 from ._limits import CITY_LIMIT, COORDINATE_LIMIT
 
@@ -21,17 +22,42 @@ EXACT = decimal.Context(prec=100)
 
 
 def units(coordinate: Any) -> int:
-    """A coordinate in units of 10^-9. Digits after the ninth decimal place are dropped."""
+    """A coordinate in units of 10^-9. Digits after the ninth decimal place are dropped. `ValueError` describes what it is otherwise."""
     if isinstance(coordinate, int):
         found: int = coordinate * SCALE
     else:
         try:
             found = int(decimal.Decimal(str(coordinate)).scaleb(PLACES, EXACT))
         except (ArithmeticError, ValueError):
-            raise ValueError(f"not a coordinate: {coordinate!r}") from None
+            raise ValueError(f"{coordinate!r}, not a number") from None
     if abs(found) > FARTHEST:
-        raise ValueError(f"a coordinate must be from {-COORDINATE_LIMIT:,} to {COORDINATE_LIMIT:,}, not {coordinate}")
+        raise ValueError(f"{coordinate}, not from {-COORDINATE_LIMIT:,} to {COORDINATE_LIMIT:,}")
     return found
+
+
+def pairs_of(points: Sequence[Any]) -> List[Tuple[int, int]]:
+    """The coordinates that the caller has passed, in units."""
+    try:
+        return [(units(x), units(y)) for x, y in points]
+    except (TypeError, ValueError):
+        return [checked_pair(city, point) for city, point in enumerate(points, 1)]
+
+
+def checked_pair(city: int, point: Any) -> Tuple[int, int]:
+    """The coordinates of a city. An error describes what they are otherwise."""
+    try:
+        x, y = point
+    except (TypeError, ValueError):
+        raise ValueError(f"points: city {city} is {point!r}, not a pair of coordinates") from None
+    return checked_units("x", city, x), checked_units("y", city, y)
+
+
+def checked_units(axis: str, city: int, coordinate: Any) -> int:
+    """A coordinate of a city. An error names both."""
+    try:
+        return units(coordinate)
+    except ValueError as error:
+        raise ValueError(f"points: {axis} of city {city} is {error}") from None
 
 
 def units_of(word: bytes) -> int:
@@ -62,12 +88,11 @@ class Points:
     @classmethod
     def given(cls, points: Iterable[Sequence[Any]], kind: str) -> Points:
         """The cities at these points, which the caller has passed."""
-        if kind not in KINDS:
-            raise ValueError(f"the kind of distances must be one of {', '.join(KINDS)}, not {kind!r}")
-        listed = points.tolist() if hasattr(points, "tolist") else points
-        pairs = [(units(x), units(y)) for x, y in listed]
+        if text_argument("kind", kind) not in KINDS:
+            raise ValueError(f"kind must be one of {', '.join(KINDS)}, not {kind!r}")
+        pairs = pairs_of(items_of("points", points, "a list of pairs of coordinates"))
         if not 2 <= len(pairs) <= CITY_LIMIT:
-            raise ValueError(f"a problem must have 2 to {CITY_LIMIT:,} cities, not {len(pairs):,}")
+            raise ValueError(f"points must be 2 to {CITY_LIMIT:,} cities, not {len(pairs):,}")
         return cls(pairs, kind)
 
     @classmethod

@@ -7,6 +7,7 @@ import math
 import re
 from typing import Any, Dict, Iterable, Optional, Sequence, Tuple, Union
 
+from ._arguments import text_argument
 from ._contents import Contents
 from ._library import REFUSED, Answer, call, output_slice
 from ._limits import CITY_LIMIT
@@ -19,6 +20,9 @@ from ._writing import LINE, write_texts
 
 # The line of a problem file that states the number of cities.
 DIMENSION = re.compile(rb"^[ \t\r]*DIMENSION[ \t\r]*:?[ \t\r]*\+?(\d{1,18})\b", re.IGNORECASE | re.MULTILINE)
+
+# The maximum number of bytes of a name.
+NAME_LIMIT = 1024
 
 # The number of bytes that are searched for the DIMENSION line. A search of the whole text would take long.
 HEAD = 1 << 16
@@ -84,12 +88,10 @@ class Problem:
         capacity: Optional[int],
         depot: int,
     ) -> Problem:
-        """A problem of these cities. The text of a CVRP is read here, so that its faults are reported at once."""
+        """A problem of these cities. All arguments are checked here, so the library accepts the text of the problem."""
         problem = cls.__new__(cls)
-        problem._given, problem._name = cities, " ".join(name.split()) or "Unnamed"
+        problem._given, problem._name = cities, given_name(name)
         problem._given_service = given_service(demands, capacity, depot, cities.size)
-        if problem._given_service:
-            problem._read()
         return problem
 
     @property
@@ -222,6 +224,18 @@ class Problem:
         if isinstance(self._given, Text):
             return f"Problem({self.file!r})" if self.file is not None else f"Problem(<{len(self.text):,} bytes>)"
         return f"<Problem of {self.size:,} cities by {self._given.form}>"
+
+
+def given_name(name: str) -> str:
+    """A name that the caller has passed, on one line."""
+    found = " ".join(text_argument("name", name).split()) or "Unnamed"
+    try:
+        length = len(found.encode())
+    except UnicodeEncodeError:
+        raise ValueError(f"name is {name!r}, which UTF-8 cannot represent") from None
+    if length > NAME_LIMIT:
+        raise ValueError(f"name must have at most {NAME_LIMIT:,} bytes, not {length:,}")
+    return found
 
 
 def problem_of(given: Union[Problem, File, Bytes]) -> Problem:

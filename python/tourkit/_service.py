@@ -4,7 +4,9 @@ from __future__ import annotations
 
 from typing import Iterable, NamedTuple, Optional, Tuple
 
+from ._arguments import integers, items_of, raise_unfit, within
 from ._contents import Contents
+from ._limits import CAPACITY_LIMIT, TABLE_LIMIT
 
 
 class Service(NamedTuple):
@@ -21,15 +23,23 @@ class Service(NamedTuple):
 
 
 def given_service(demands: Optional[Iterable[int]], capacity: Optional[int], depot: int, size: int) -> Optional[Service]:
-    """What the caller has passed; `None` without demands and a capacity."""
+    """The arguments of a caller, which must fit a problem of this size; `None` without demands and a capacity."""
     if demands is None and capacity is None:
         return None
     if demands is None or capacity is None:
-        raise ValueError("a CVRP needs both demands and a capacity")
-    listed = tuple(demands)
+        raise ValueError("a CVRP needs both demands and capacity")
+    if size > TABLE_LIMIT:
+        raise ValueError(f"demands: a CVRP must have at most {TABLE_LIMIT:,} cities, not {size:,}")
+    most, home = within("capacity", capacity, 1, CAPACITY_LIMIT), within("depot", depot, 1, size)
+    listed = items_of("demands", demands, "a list of integers")
     if len(listed) != size:
-        raise ValueError(f"{len(listed):,} demands for {size:,} cities")
-    return Service(listed, capacity, depot)
+        raise ValueError(f"demands must be {size:,} numbers, one for each city, not {len(listed):,}")
+    numbers = integers(listed, CAPACITY_LIMIT, lambda index: f"demands: demand of city {index + 1}")
+    if max(numbers) > most:
+        raise_unfit(numbers, most, lambda index: f"demands: with a capacity of {most:,}, demand of city {index + 1}")
+    if numbers[home - 1]:
+        raise ValueError(f"demands: demand of city {home}, the depot, is {numbers[home - 1]:,}, not 0")
+    return Service(tuple(numbers), most, home)
 
 
 def read_service(contents: Contents) -> Service:

@@ -5,11 +5,13 @@ from __future__ import annotations
 import dataclasses
 from typing import Any, Callable, Dict, Iterable, Optional, Tuple, Union
 
-from ._claims import claimed_text, tour_text
-from ._limits import CANDIDATE_LIMIT, within
+from ._arguments import items_of, text_argument, within
+from ._checks import verdict_on_list
+from ._claims import claimed_text, refused_list, tour_text
+from ._limits import CANDIDATE_LIMIT
 from ._problem import Problem, problem_of
 from ._results import Routes, Tour, result_of
-from ._text import Bytes, File, Text
+from ._text import ACCEPTED, Bytes, File, Text
 from ._writing import write_texts
 
 SEEDS = 2**32
@@ -47,7 +49,9 @@ def solve(
         Tour(length=71741)
     """
     asked = problem_of(problem)
-    start = None if initial_tour is None else claimed_text(initial_tour, "tour") or listed_tour(initial_tour)
+    start = start_of(asked, initial_tour)
+    if progress is not None and not callable(progress):
+        raise TypeError(f"progress must be a function, not {type(progress).__name__}")
     first = within("seed", seed, 0, SEEDS - 1)
     keys = {
         "RUNS": within("runs", runs, 1, 10_000),
@@ -73,14 +77,24 @@ def solve(
     return best
 
 
-def listed_tour(tour: Any) -> Text:
-    """The text of the initial tour, from a list of cities."""
-    return Text(tour_text(tour), "tour")
+def start_of(problem: Problem, initial_tour: Any) -> Optional[Text]:
+    """The text of the initial tour, if there is one. A list must be a tour of the problem."""
+    if initial_tour is None:
+        return None
+    text = claimed_text(initial_tour, "tour")
+    if text:
+        return text
+    listed = items_of("initial_tour", initial_tour, ACCEPTED["initial_tour"])
+    if problem.kind == "tsp":
+        verdict = verdict_on_list(problem, listed, "initial_tour")
+        if not verdict:
+            raise refused_list("initial_tour", verdict)
+    return Text(tour_text(listed, "initial_tour"), "tour")
 
 
 def construction_of(name: str) -> str:
     """The name of a construction, in capital letters."""
-    if name.upper() not in CONSTRUCTIONS:
+    if text_argument("construction", name).upper() not in CONSTRUCTIONS:
         raise ValueError(f"construction must be one of {' and '.join(CONSTRUCTIONS)}, not {name!r}")
     return name.upper()
 

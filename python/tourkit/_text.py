@@ -12,6 +12,17 @@ File = Union[str, "os.PathLike[str]"]
 Bytes = Union[bytes, bytearray, memoryview]
 
 
+# The kinds of objects that each argument can be.
+FILE_OR_TEXT = "a file (str or os.PathLike), a text (bytes)"
+ACCEPTED = {
+    "problem": f"{FILE_OR_TEXT} or a Problem",
+    "tour": f"{FILE_OR_TEXT}, a Tour or a list of cities",
+    "initial_tour": f"{FILE_OR_TEXT}, a Tour or a list of cities",
+    "solution": f"{FILE_OR_TEXT}, Routes or a list of routes",
+    "claim": f"{FILE_OR_TEXT}, a Tour, Routes, a list of cities or a list of routes",
+}
+
+
 class Text(NamedTuple):
     """The bytes of a text, its kind, and the file that it was read from."""
 
@@ -42,5 +53,5 @@ def text_of(given: Any, what: str) -> Text:
     if isinstance(given, (str, os.PathLike)):
         return Text(read_file(given, what), what, os.fspath(given))
     if not is_text(given):
-        raise TypeError(f"a {what} must be a file (str or os.PathLike) or a text (bytes), not {type(given).__name__}")
+        raise TypeError(f"{what} must be {ACCEPTED[what]}, not {type(given).__name__}")
     return Text(frozen(given), what)

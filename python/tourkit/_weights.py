@@ -2,19 +2,22 @@
 
 from __future__ import annotations
 
+import functools
 from array import array
 from typing import Any, Iterable, Iterator, List, Sequence, Tuple
 
+from ._arguments import integers, items_of, require_items
 from ._library import input_slice
 from ._limits import DISTANCE_LIMIT, TABLE_LIMIT
 
 
-def rows_in(matrix: Any) -> Iterator[List[int]]:
-    """The rows of a matrix, one after another."""
+def rows_in(matrix: Any) -> Iterator[List[Any]]:
+    """The rows of a matrix, one after another, as copies."""
     if isinstance(matrix, memoryview) and matrix.ndim == 2:
         matrix = rows_of_view(matrix)
-    for row in matrix:
-        yield row.tolist() if hasattr(row, "tolist") else list(row)
+    require_items("matrix", matrix, "a list of rows")
+    for number, row in enumerate(matrix, 1):
+        yield items_of(f"matrix: row {number}", row, "a list of numbers")
 
 
 def rows_of_view(matrix: memoryview) -> Iterator[memoryview]:
@@ -29,20 +32,21 @@ def rows_of_view(matrix: memoryview) -> Iterator[memoryview]:
 
 def read_matrix(matrix: Any) -> Tuple[int, array[int]]:
     """The number of rows of a matrix, and its numbers. Those on the diagonal are ignored."""
-    size, numbers = 0, array("I")
+    size, width, numbers = 0, 0, array("I")
     for size, row in enumerate(rows_in(matrix), 1):
-        if size > TABLE_LIMIT or size > len(row):
-            break
+        width = width or len(row)
+        if len(row) != width or not size <= width <= TABLE_LIMIT:
+            raise ValueError(f"matrix must have as many columns as rows, 2 to {TABLE_LIMIT:,}, but row {size} has {len(row):,} columns")
         row[size - 1] = 0
-        try:
-            numbers.extend(array("I", row))
-        except OverflowError:
-            raise ValueError(f"row {size} has a distance that is not from 0 to {DISTANCE_LIMIT:,}") from None
-    if not 2 <= size <= TABLE_LIMIT or len(numbers) != size * size:
-        raise ValueError(f"a matrix must have as many columns as rows, 2 to {TABLE_LIMIT:,}")
-    if max(numbers) > DISTANCE_LIMIT:
-        raise ValueError(f"a distance must be from 0 to {DISTANCE_LIMIT:,}, not {max(numbers):,}")
+        numbers.extend(integers(row, DISTANCE_LIMIT, functools.partial(distance_of, size)))
+    if size < 2 or size != width:
+        raise ValueError(f"matrix must have as many columns as rows, 2 to {TABLE_LIMIT:,}, but it has {size} rows of {width:,} columns")
     return size, numbers
+
+
+def distance_of(city: int, index: int) -> str:
+    """The number at an index of the row of a city, in words."""
+    return f"matrix: distance of {city} and {index + 1}"
 
 
 class Weights:
