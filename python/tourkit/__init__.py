@@ -15,10 +15,13 @@ from ._checks import check, check_solution
 from ._matrix import matrix
 from ._pictures import Picture, plot
 from ._problem import Problem
+from ._reading import read_solution, read_tour
 from ._refused import Refused
 from ._results import Routes, Run, Tour
 from ._solve import solve
 from ._verdicts import RouteVerdict, TourVerdict
+
+__version__ = "0.1.0"
 
 __all__ = [
     "Picture",
@@ -35,5 +38,7 @@ __all__ = [
     "matrix",
     "near",
     "plot",
+    "read_solution",
+    "read_tour",
     "solve",
 ]

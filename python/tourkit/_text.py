@@ -15,6 +15,7 @@ Bytes = Union[bytes, bytearray, memoryview]
 # The kinds of objects that each argument can be.
 FILE_OR_TEXT = "a file (str or os.PathLike), a text (bytes)"
 ACCEPTED = {
+    "file": "a file (str or os.PathLike) or a text (bytes)",
     "problem": f"{FILE_OR_TEXT} or a Problem",
     "tour": f"{FILE_OR_TEXT}, a Tour or a list of cities",
     "initial_tour": f"{FILE_OR_TEXT}, a Tour or a list of cities",
@@ -48,10 +49,10 @@ def is_text(given: Any) -> bool:
     return isinstance(given, (str, os.PathLike, bytes, bytearray))
 
 
-def text_of(given: Any, what: str) -> Text:
-    """The text of a file or of bytes."""
+def text_of(given: Any, what: str, name: str = "") -> Text:
+    """The text of a file or of bytes. `name` is that of the argument, if it is not the kind of the text."""
     if isinstance(given, (str, os.PathLike)):
         return Text(read_file(given, what), what, os.fspath(given))
     if not is_text(given):
-        raise TypeError(f"{what} must be {ACCEPTED[what]}, not {type(given).__name__}")
+        raise TypeError(f"{name or what} must be {ACCEPTED[name or what]}, not {type(given).__name__}")
     return Text(frozen(given), what)
