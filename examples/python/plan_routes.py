@@ -7,19 +7,22 @@ usage: plan_routes.py PLACES CAPACITY PICTURE >ROUTES        (needs the package 
 import csv
 import sys
 from pathlib import Path
+from typing import Dict, List, Tuple
 
 import tourkit
 
 CANDIDATES = 20
 
+Place = Dict[str, str]
 
-def read_places(file):
+
+def read_places(file: str) -> List[Place]:
     """Returns the places of a CSV file. The demand of the depot may be empty."""
     with open(file, encoding="utf-8-sig", newline="") as lines:
         return list(csv.DictReader(lines, skipinitialspace=True))
 
 
-def plan(places, capacity, name):
+def plan(places: List[Place], capacity: int, name: str) -> Tuple[tourkit.CVRP, tourkit.Routes]:
     """Returns the problem for these places, and its routes."""
     points = [(place["x"], place["y"]) for place in places]
     demands = [int(place["demand"] or 0) for place in places]
@@ -27,7 +30,7 @@ def plan(places, capacity, name):
     return problem, tourkit.solve(problem, candidates=CANDIDATES)
 
 
-def print_routes(places, routes):
+def print_routes(places: List[Place], routes: tourkit.Routes) -> None:
     """Prints a line for each stop. City c is the place at index c - 1."""
     out = csv.writer(sys.stdout, lineterminator="\n")
     out.writerow(["route", "stop", "name"])
@@ -36,7 +39,7 @@ def print_routes(places, routes):
             out.writerow([route, stop, places[city - 1]["name"]])
 
 
-def main():
+def main() -> None:
     if len(sys.argv) != 4:
         sys.exit(__doc__)
     file, capacity, picture = sys.argv[1:]

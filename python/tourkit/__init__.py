@@ -14,7 +14,7 @@ from ._arrays import distances, near
 from ._checks import check, check_solution
 from ._matrix import matrix
 from ._pictures import Picture, plot
-from ._problem import Problem
+from ._problem import CVRP, TSP, Problem
 from ._reading import read_solution, read_tour
 from ._refused import Refused
 from ._results import Routes, Run, Tour
@@ -24,12 +24,14 @@ from ._verdicts import RouteVerdict, TourVerdict
 __version__ = "0.1.0"
 
 __all__ = [
+    "CVRP",
     "Picture",
     "Problem",
     "Refused",
     "RouteVerdict",
     "Routes",
     "Run",
+    "TSP",
     "Tour",
     "TourVerdict",
     "check",

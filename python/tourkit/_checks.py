@@ -59,8 +59,8 @@ def check_solution(
 
 
 def verdict_on_lists(problem: Problem, routes: Any, name: str = "solution") -> RouteVerdict:
-    """The verdict on lists of customers, which are the argument of this name. The cost is checked last, so if it is reported as wrong, there
-    is no other fault."""
+    """The verdict on lists of customers, the argument of this name. The cost is checked last, so if it is reported as wrong, there is no
+    other fault."""
     listed = routes_of(routes, name)
     found = verdict_on("tourkit_checksol", RouteVerdict, problem, Text(solution_text(listed, name), "solution"))
     if found.fault == "WrongCost":

@@ -24,6 +24,18 @@ def parts_of(text: bytes) -> Iterator[Tuple[bytes, int, int]]:
         mark = later
 
 
+def value_in(part: bytes) -> bytes:
+    """The value of a header, or the words of a section, without the colon and the blanks around it."""
+    found = part.strip(BLANKS)
+    return found[1:].lstrip(BLANKS) if found.startswith(b":") else found
+
+
+def kind_in(text: bytes) -> str:
+    """The kind of an accepted problem: `"tsp"` or `"cvrp"`. The header TYPE comes before every section."""
+    values = (text[start:end] for keyword, start, end in parts_of(text) if keyword == b"TYPE")
+    return value_in(next(values)).split()[0].lower().decode()
+
+
 class Contents:
     """The headers and sections of an accepted text, by their keywords."""
 
@@ -38,8 +50,7 @@ class Contents:
     def value(self, keyword: bytes) -> bytes:
         """The value of a header; no bytes if it is missing."""
         start, end = self._places.get(keyword, (0, 0))
-        found = self._text[start:end].strip(BLANKS)
-        return found[1:].lstrip(BLANKS) if found.startswith(b":") else found
+        return value_in(self._text[start:end])
 
     def word(self, keyword: bytes) -> str:
         """The first word of the value of a header, in capital letters."""

@@ -53,7 +53,7 @@ def load() -> ctypes.CDLL:
     try:
         loaded = ctypes.CDLL(str(place))
     except OSError as error:
-        raise ImportError(f"{error}; install the package by `pip install ./python`, or make a wheel with its library by `./tourkit --wheel DIR`") from error
+        raise ImportError(f"{error}; `pip install ./python` and `./tourkit --wheel DIR` pack this package with its library") from error
     for name, takes in CALLS.items():
         export = getattr(loaded, name)
         export.argtypes = (*takes, ctypes.POINTER(Answer))

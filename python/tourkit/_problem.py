@@ -5,17 +5,18 @@ from __future__ import annotations
 import functools
 import math
 import re
-from typing import Any, Dict, Iterable, Optional, Sequence, Tuple, Union
+from typing import Any, Dict, Iterable, Optional, Sequence, Tuple, Type, TypeVar, Union, overload
 
 from ._arguments import text_argument
-from ._contents import Contents
+from ._contents import Contents, kind_in
 from ._library import REFUSED, Answer, call, output_slice
 from ._limits import CITY_LIMIT
 from ._points import Points
+from ._refused import Refused
 from ._room import room_for
 from ._service import Service, given_service, read_service
 from ._text import Bytes, File, Text, text_of
-from ._weights import Weights
+from ._weights import Matrix, Weights
 from ._writing import LINE, write_texts
 
 # The line of a problem file that states the number of cities.
@@ -28,8 +29,11 @@ NAME_LIMIT = 1024
 HEAD = 1 << 16
 
 
+P = TypeVar("P", bound="Problem")
+
+
 class Problem:
-    """A TSP or a CVRP. Functions of this package accept it instead of a file or a text.
+    """A problem: a `TSP` or a `CVRP`. Functions of this package accept it instead of a file or a text.
 
         Problem("board.tsp")                            a file
         Problem(b"NAME : ...")                          a text
@@ -41,9 +45,55 @@ class Problem:
     _name = "Unnamed"
     _given_service: Optional[Service] = None
 
-    def __init__(self, given: Union[File, Bytes]) -> None:
-        self._given = text_of(given, "problem")
-        self.size = self._read()
+    def __new__(cls: Type[P], given: Union[File, Bytes]) -> P:
+        """The problem of a file or a text, which must be of the class that is called."""
+        text = text_of(given, "problem")
+        size = problem_of_text(text).size
+        kind: Type[Problem] = CVRP if kind_in(text.data) == "cvrp" else TSP
+        found = object.__new__(kind)
+        found._given, found.size = text, size
+        if isinstance(found, cls):
+            return found
+        raise Refused(f"{text.where}: not a {cls.__name__}", None, "WrongType", None, text.file)
+
+    @overload
+    @classmethod
+    def from_points(
+        cls,
+        points: Iterable[Sequence[Any]],
+        kind: str = "EUC_2D",
+        *,
+        name: str = "Unnamed",
+        demands: None = None,
+        capacity: None = None,
+        depot: int = 1,
+    ) -> TSP: ...
+
+    @overload
+    @classmethod
+    def from_points(
+        cls,
+        points: Iterable[Sequence[Any]],
+        kind: str = "EUC_2D",
+        *,
+        name: str = "Unnamed",
+        demands: Iterable[int],
+        capacity: int,
+        depot: int = 1,
+    ) -> CVRP: ...
+
+    @overload
+    @classmethod
+    def from_points(
+        cls,
+        points: Iterable[Sequence[Any]],
+        kind: str = "EUC_2D",
+        *,
+        name: str = "Unnamed",
+        demands: Optional[Iterable[int]] = None,
+        capacity: Optional[int] = None,
+        depot: int = 1,
+    ) -> Problem: ...
 
     @classmethod
     def from_points(
@@ -61,12 +111,49 @@ class Problem:
         The first point is city 1. A coordinate has the value that `str` prints, up to the ninth decimal place, as in a problem file.
         With the demands of all cities, including that of the depot, and a capacity, the problem is a CVRP.
         """
-        return cls._of(Points.given(points, kind), name, demands, capacity, depot)
+        cities = Points.given(points, kind)
+        return cls._of(cities, name, given_service(demands, capacity, depot, cities.size))
+
+    @overload
+    @classmethod
+    def from_matrix(
+        cls,
+        matrix: Matrix,
+        *,
+        name: str = "Unnamed",
+        demands: None = None,
+        capacity: None = None,
+        depot: int = 1,
+    ) -> TSP: ...
+
+    @overload
+    @classmethod
+    def from_matrix(
+        cls,
+        matrix: Matrix,
+        *,
+        name: str = "Unnamed",
+        demands: Iterable[int],
+        capacity: int,
+        depot: int = 1,
+    ) -> CVRP: ...
+
+    @overload
+    @classmethod
+    def from_matrix(
+        cls,
+        matrix: Matrix,
+        *,
+        name: str = "Unnamed",
+        demands: Optional[Iterable[int]] = None,
+        capacity: Optional[int] = None,
+        depot: int = 1,
+    ) -> Problem: ...
 
     @classmethod
     def from_matrix(
         cls,
-        matrix: Iterable[Sequence[int]],
+        matrix: Matrix,
         *,
         name: str = "Unnamed",
         demands: Optional[Iterable[int]] = None,
@@ -77,21 +164,17 @@ class Problem:
 
         With the demands of all cities, including that of the depot, and a capacity, the problem is a CVRP.
         """
-        return cls._of(Weights(matrix), name, demands, capacity, depot)
+        cities = Weights(matrix)
+        return cls._of(cities, name, given_service(demands, capacity, depot, cities.size))
 
     @classmethod
-    def _of(
-        cls,
-        cities: Union[Points, Weights],
-        name: str,
-        demands: Optional[Iterable[int]],
-        capacity: Optional[int],
-        depot: int,
-    ) -> Problem:
+    def _of(cls, cities: Union[Points, Weights], name: str, service: Optional[Service]) -> Problem:
         """A problem of these cities. All arguments are checked here, so the library accepts the text of the problem."""
-        problem = cls.__new__(cls)
-        problem._given, problem._name = cities, given_name(name)
-        problem._given_service = given_service(demands, capacity, depot, cities.size)
+        kind: Type[Problem] = CVRP if service else TSP
+        problem = object.__new__(kind)
+        if not isinstance(problem, cls):
+            raise ValueError("a TSP has neither demands nor capacity" if service else "a CVRP needs both demands and capacity")
+        problem._given, problem._name, problem._given_service = cities, given_name(name), service
         return problem
 
     @property
@@ -104,7 +187,10 @@ class Problem:
     @property
     def kind(self) -> str:
         """`"tsp"` or `"cvrp"`."""
-        return "cvrp" if self._service else "tsp"
+        if not isinstance(self._given, Text):
+            return "cvrp" if self._given_service else "tsp"
+        self._ensure_read()
+        return kind_in(self.text)
 
     @property
     def distance_type(self) -> str:
@@ -169,7 +255,7 @@ class Problem:
     @functools.cached_property
     def _contents(self) -> Contents:
         """The parts of the text, after the library has accepted it."""
-        self._read()
+        self._ensure_read()
         return Contents(self.text)
 
     @functools.cached_property
@@ -185,7 +271,12 @@ class Problem:
         """The demands, the capacity and the depot of a CVRP; `None` for a TSP."""
         if not isinstance(self._given, Text):
             return self._given_service
-        return read_service(self._contents) if self._contents.word(b"TYPE") == "CVRP" else None
+        return read_service(self._contents) if self.kind == "cvrp" else None
+
+    def _ensure_read(self) -> None:
+        """Lets the library read the text, unless it has already."""
+        if "size" not in vars(self):
+            self.size = self._read()
 
     def _read(self) -> int:
         """Lets the library read the text, and returns the number of cities."""
@@ -215,15 +306,52 @@ class Problem:
             raise ValueError(f"{self!r} was rejected")
         return answer
 
-    def __getstate__(self) -> Dict[str, Any]:
-        """The members to pickle, without those that can be computed again."""
+    def __reduce__(self) -> Tuple[Any, ...]:
+        """Pickles the members, without those that can be computed again."""
         kept = vars(self).items()
-        return {name: value for name, value in kept if not isinstance(getattr(type(self), name, None), functools.cached_property)}
+        state = {name: value for name, value in kept if not isinstance(getattr(type(self), name, None), functools.cached_property)}
+        return restored, (type(self), state)
 
     def __repr__(self) -> str:
+        name = type(self).__name__
         if isinstance(self._given, Text):
-            return f"Problem({self.file!r})" if self.file is not None else f"Problem(<{len(self.text):,} bytes>)"
-        return f"<Problem of {self.size:,} cities by {self._given.form}>"
+            return f"{name}({self.file!r})" if self.file is not None else f"{name}(<{len(self.text):,} bytes>)"
+        return f"<{name} of {self.size:,} cities by {self._given.form}>"
+
+
+class TSP(Problem):
+    """A symmetric travelling salesman problem."""
+
+
+class CVRP(Problem):
+    """A capacitated vehicle routing problem."""
+
+    @property
+    def demands(self) -> Tuple[int, ...]:
+        """The demand of each city, from city 1."""
+        return self._known_service().demands
+
+    @property
+    def capacity(self) -> int:
+        """The capacity of a vehicle."""
+        return self._known_service().capacity
+
+    @property
+    def depot(self) -> int:
+        """The city that is the depot."""
+        return self._known_service().depot
+
+    def _known_service(self) -> Service:
+        """The demands, the capacity and the depot, which a CVRP has."""
+        assert self._service
+        return self._service
+
+
+def restored(kind: Type[Problem], state: Dict[str, Any]) -> Problem:
+    """A problem that has been pickled."""
+    problem = object.__new__(kind)
+    vars(problem).update(state)
+    return problem
 
 
 def given_name(name: str) -> str:
@@ -239,9 +367,12 @@ def given_name(name: str) -> str:
 
 
 def problem_of(given: Union[Problem, File, Bytes]) -> Problem:
-    """The given problem, or the problem of a file or a text. Its text is parsed only when it is used."""
-    if isinstance(given, Problem):
-        return given
-    problem = Problem.__new__(Problem)
-    problem._given = text_of(given, "problem")
+    """The given problem, or the problem of a file or a text."""
+    return given if isinstance(given, Problem) else problem_of_text(text_of(given, "problem"))
+
+
+def problem_of_text(text: Text) -> Problem:
+    """The problem of a text, which is parsed only when it is used. It is of neither class."""
+    problem = object.__new__(Problem)
+    problem._given = text
     return problem

@@ -42,6 +42,7 @@ class Tour:
 @dataclass(frozen=True)
 class Routes:
     """The routes of a search: their cost, the customers of each, and these customers by their city numbers. `text` is a solution file.
+    `length` is the cost, so that tours and routes can be compared by it.
 
     Customer k is the k-th city that is not the depot, so it is city k + 1 if the depot is city 1. `savings` is the cost of the routes of
     the savings algorithm. `moves`, `tests` and `swaps` are the numbers of moves, gain tests and swaps that improved them.
@@ -55,6 +56,11 @@ class Routes:
     tests: int
     swaps: int
     text: bytes = field(repr=False)
+
+    @property
+    def length(self) -> int:
+        """The cost of the routes."""
+        return self.cost
 
     def __str__(self) -> str:
         return f"{len(self.customers)} routes, cost {self.cost}"

@@ -3,16 +3,18 @@
 from __future__ import annotations
 
 import dataclasses
-from typing import Any, Callable, Dict, Iterable, Optional, Tuple, Union
+from typing import Any, Callable, Dict, Iterable, Optional, Tuple, Union, overload
 
 from ._arguments import items_of, text_argument, within
 from ._checks import verdict_on_list
 from ._claims import claimed_text, refused_list, tour_text
 from ._limits import CANDIDATE_LIMIT
-from ._problem import Problem, problem_of
+from ._problem import CVRP, TSP, Problem, problem_of
 from ._results import Routes, Tour, result_of
 from ._text import ACCEPTED, Bytes, File, Text
 from ._writing import write_texts
+
+Start = Union[File, Bytes, Tour, Iterable[int], None]
 
 SEEDS = 2**32
 CONSTRUCTIONS = ("NEAREST", "SAVINGS")
@@ -24,6 +26,41 @@ RUN = 256
 TEXT = 1 << 22
 
 
+@overload
+def solve(
+    problem: TSP,
+    *,
+    seed: int = 1,
+    trials: Optional[int] = None,
+    runs: int = 10,
+    candidates: int = 5,
+    construction: str = "NEAREST",
+    initial_tour: Start = None,
+    final_sweep: bool = False,
+    or_segment: int = 3,
+    pieces: int = 1,
+    progress: Optional[Callable[[Tour], Any]] = None,
+) -> Tour: ...
+
+
+@overload
+def solve(
+    problem: CVRP,
+    *,
+    seed: int = 1,
+    trials: Optional[int] = None,
+    runs: int = 10,
+    candidates: int = 5,
+    construction: str = "NEAREST",
+    initial_tour: Start = None,
+    final_sweep: bool = False,
+    or_segment: int = 3,
+    pieces: int = 1,
+    progress: Optional[Callable[[Routes], Any]] = None,
+) -> Routes: ...
+
+
+@overload
 def solve(
     problem: Union[Problem, File, Bytes],
     *,
@@ -32,11 +69,27 @@ def solve(
     runs: int = 10,
     candidates: int = 5,
     construction: str = "NEAREST",
-    initial_tour: Union[File, Bytes, Tour, Iterable[int], None] = None,
+    initial_tour: Start = None,
     final_sweep: bool = False,
     or_segment: int = 3,
     pieces: int = 1,
     progress: Optional[Callable[[Union[Tour, Routes]], Any]] = None,
+) -> Union[Tour, Routes]: ...
+
+
+def solve(
+    problem: Union[Problem, File, Bytes],
+    *,
+    seed: int = 1,
+    trials: Optional[int] = None,
+    runs: int = 10,
+    candidates: int = 5,
+    construction: str = "NEAREST",
+    initial_tour: Start = None,
+    final_sweep: bool = False,
+    or_segment: int = 3,
+    pieces: int = 1,
+    progress: Optional[Callable[[Any], Any]] = None,
 ) -> Union[Tour, Routes]:
     """Searches for a short tour, or for short routes of a CVRP. docs/PARAMETERS.md describes the effect of each option on time and quality.
 

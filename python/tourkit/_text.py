@@ -8,7 +8,7 @@ from typing import Any, NamedTuple, Optional, Tuple, Union
 from ._files import read_file
 from ._library import frozen, input_slice
 
-File = Union[str, "os.PathLike[str]"]
+File = Union[str, os.PathLike[str]]
 Bytes = Union[bytes, bytearray, memoryview]
 
 

@@ -4,7 +4,7 @@ from __future__ import annotations
 
 import functools
 from array import array
-from typing import Any, Iterable, Iterator, List, Sequence, Tuple
+from typing import Any, Iterable, Iterator, List, Sequence, Tuple, Union
 
 from ._arguments import integers, items_of, require_items
 from ._library import input_slice
@@ -49,13 +49,17 @@ def distance_of(city: int, index: int) -> str:
     return f"matrix: distance of {city} and {index + 1}"
 
 
+# Matrices with a row for each city: lists of lists, numpy arrays, or memoryviews with two dimensions.
+Matrix = Union[Iterable[Sequence[int]], memoryview]
+
+
 class Weights:
     """Cities with distances: the lower triangle of a matrix row by row, without its diagonal."""
 
     form = "weights"
     kind = "EXPLICIT"
 
-    def __init__(self, matrix: Iterable[Sequence[int]]) -> None:
+    def __init__(self, matrix: Matrix) -> None:
         n, numbers = read_matrix(matrix)
         self.size = n
         lower = array("I")

@@ -15,11 +15,13 @@ PUBLIC = ["capacity", "demands", "depot", "distance_type", "file", "from_matrix"
 
 # Texts with more than their parts, and with their parts in an unusual order or form.
 UNUSUAL = [
-    b"name:\xff a \n\ttype : Tsp\rx\nDIMENSION 2\nEDGE_WEIGHT_TYPE : att kind\nNODE_COORD_SECTION : 2 1e3 -.5\n1 +7. 0.1234567899\nEOF\nNAME : b\n",
-    b"COMMENT : NAME : x\nCOMMENT :\nNAME\nTYPE : TSP\nCAPACITY : 9\nDIMENSION : 2\nEDGE_WEIGHT_TYPE : CEIL_2D\nNODE_COORD_SECTION 1 0 0 2\n1\n1\n"
-    b"EOF\nDEPOT_SECTION\n1\n",
+    b"name:\xff a \n\ttype : Tsp\rx\nDIMENSION 2\nEDGE_WEIGHT_TYPE : att kind\nNODE_COORD_SECTION : 2 1e3 -.5\n1 +7. 0.1234567899\n"
+    b"EOF\nNAME : b\n",
+    b"COMMENT : NAME : x\nCOMMENT :\nNAME\nTYPE : TSP\nCAPACITY : 9\nDIMENSION : 2\nEDGE_WEIGHT_TYPE : CEIL_2D\n"
+    b"NODE_COORD_SECTION 1 0 0 2\n1\n1\nEOF\nDEPOT_SECTION\n1\n",
     b"TYPE : CVRP\nDIMENSION : 3\nCAPACITY : +5 each\nDEPOT_SECTION : 2 EOF\nNAME : late",
-    b"TYPE : CVRP\nDIMENSION : 3\nCAPACITY : +5 each\nEDGE_WEIGHT_TYPE : EXPLICIT\nEDGE_WEIGHT_FORMAT : UPPER_ROW\nEDGE_WEIGHT_SECTION\n1 2 3\n"
+    b"TYPE : CVRP\nDIMENSION : 3\nCAPACITY : +5 each\nEDGE_WEIGHT_TYPE : EXPLICIT\nEDGE_WEIGHT_FORMAT : UPPER_ROW\n"
+    b"EDGE_WEIGHT_SECTION\n1 2 3\n"
     b"NODE_COORD_SECTION\n1 5 5\n2 5 5\n3 5 5\nDEMAND_SECTION : 3 4 1 5\n2 0\nDEPOT_SECTION : 2 EOF\nNAME : late\nTYPE : TSP\n",
 ]
 
@@ -96,6 +98,32 @@ def try_public_names():
     assert [name for name in dir(problem) if not name.startswith("_")] == PUBLIC, dir(problem)
 
 
+def try_classes():
+    """A problem is a TSP or a CVRP, whatever it is made from. The class that is called must be its class."""
+    points = [(0, 0), (3, 0), (0, 4)]
+    service = {"demands": [0, 1, 2], "capacity": 2}
+    made = [tourkit.Problem("tri.tsp"), tourkit.TSP("tri.tsp"), tourkit.Problem.from_points(points), tourkit.TSP.from_points(points)]
+    made += [tourkit.Problem("bakery.vrp"), tourkit.CVRP("bakery.vrp")]
+    made += [kind.from_points(points, **service) for kind in (tourkit.Problem, tourkit.CVRP)]
+    kinds = [tourkit.TSP] * 4 + [tourkit.CVRP] * 4
+    for problem, kind in zip(made, kinds):
+        again = pickle.loads(pickle.dumps(problem))
+        assert type(problem) is type(again) is kind and problem.kind == again.kind == kind.__name__.lower(), problem
+        found = tourkit.solve(problem)
+        assert type(found) is {tourkit.TSP: tourkit.Tour, tourkit.CVRP: tourkit.Routes}[kind] and found.length > 0, found
+        assert repr(problem).partition("(")[0].partition(" ")[0].strip("<") == kind.__name__, repr(problem)
+    for call, message in {
+        lambda: tourkit.TSP("bakery.vrp"): "bakery.vrp: not a TSP",
+        lambda: tourkit.CVRP("tri.tsp"): "tri.tsp: not a CVRP",
+        lambda: tourkit.CVRP.from_points(points): "a CVRP needs both demands and capacity",
+        lambda: tourkit.TSP.from_points(points, **service): "a TSP has neither demands nor capacity",
+    }.items():
+        try:
+            raise AssertionError(f"{call()}, instead of {message}")
+        except ValueError as error:
+            assert str(error) == message, error
+
+
 def tests():
     """Returns the checks of this file, named by their docstrings."""
-    return [(check.__doc__, check) for check in (try_members_of_texts, try_members_of_arrays, try_public_names)]
+    return [(check.__doc__, check) for check in (try_members_of_texts, try_members_of_arrays, try_public_names, try_classes)]

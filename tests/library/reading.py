@@ -10,9 +10,12 @@ sys.path.append(str(TESTS / "readers"))
 import texts
 import tourkit
 
-TOURS = [b"TYPE : TOUR\nTOUR_SECTION" + end for end in (b"", b"\n", b" : +1 02 3", b"\n1\n2\n-1 -1\nEOF\nTOUR_SECTION\n5\n", b"\n1 2 -01\nNAME : 7\n",
-                                                       b"\n1 4294967295 eof\nNAME : 8\n9\n", b"\n1 2\nEOF: 3", b"\r1\r2\r-1\r\n", b"\n-0 0")]
-SOLUTIONS = [b"Cost 5", b" route#+7:\rCOST : 5\nroute1: 2\nRoute\x0b: 2", b"Route #1 : 1 +2\t03\n\nROUTE -1:\nroute 2:4294967295\nCost 0\nnothing : 3\n"]
+# The ends of tour files, and solution files, in an unusual form.
+ENDS = [b"", b"\n", b" : +1 02 3", b"\n1\n2\n-1 -1\nEOF\nTOUR_SECTION\n5\n", b"\n1 2 -01\nNAME : 7\n", b"\n1 4294967295 eof\nNAME : 8\n9\n",
+        b"\n1 2\nEOF: 3", b"\r1\r2\r-1\r\n", b"\n-0 0"]
+TOURS = [b"TYPE : TOUR\nTOUR_SECTION" + end for end in ENDS]
+SOLUTIONS = [b"Cost 5", b" route#+7:\rCOST : 5\nroute1: 2\nRoute\x0b: 2",
+             b"Route #1 : 1 +2\t03\n\nROUTE -1:\nroute 2:4294967295\nCost 0\nnothing : 3\n"]
 
 
 def texts_of_cases(word):
