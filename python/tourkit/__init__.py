@@ -18,13 +18,14 @@ from ._problem import CVRP, TSP, Problem
 from ._reading import read_solution, read_tour
 from ._refused import Refused
 from ._results import Routes, Run, Tour
-from ._solve import solve
+from ._solve import Interrupted, solve
 from ._verdicts import RouteVerdict, TourVerdict
 
 __version__ = "0.1.0"
 
 __all__ = [
     "CVRP",
+    "Interrupted",
     "Picture",
     "Problem",
     "Refused",

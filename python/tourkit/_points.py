@@ -101,6 +101,10 @@ class Points:
         rows = sorted(zip(map(int, words[::3]), words[1::3], words[2::3]))
         return cls([(units_of(x), units_of(y)) for _, x, y in rows], kind)
 
+    def coordinates(self) -> Tuple[List[int], List[int]]:
+        """The coordinates of each city in units, at the index of its number."""
+        return [0, *array("q", self._xs)], [0, *array("q", self._ys)]
+
     def pairs(self) -> Tuple[Tuple[float, float], ...]:
         """The coordinates, as the nearest floats."""
         xs, ys = array("q", self._xs), array("q", self._ys)

@@ -242,7 +242,7 @@ def try_search_in_pieces():
 
 
 def try_interrupt():
-    """An interrupt comes between two pieces, and `progress` gets the best tour until then."""
+    """`progress` gets the best tour of each piece until an interrupt."""
     seen = []
     before = signal.signal(signal.SIGINT, signal.default_int_handler)  # a job in the background might not have it
     timer = threading.Timer(0.5, os.kill, (os.getpid(), signal.SIGINT))

@@ -11,7 +11,7 @@ sys.path.append(str(TESTS / "readers"))
 
 import texts
 import tourkit
-from tourkit._solve import search
+from tourkit._search import search
 from tourkit._text import Text
 
 # Messages about the command line, the files that the program opens and writes, or its two ways to search.

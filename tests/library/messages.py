@@ -99,6 +99,8 @@ ERRORS = [
     (solve(seed=-1), ValueError, "seed must be from 0 to 4,294,967,295, not -1"),
     (solve(construction=5), TypeError, "construction must be a str, not int"),
     (solve(construction="GREEDY\nRUNS = 1"), ValueError, "construction must be one of NEAREST and SAVINGS, not 'GREEDY\\nRUNS = 1'"),
+    (solve(jobs=0), ValueError, "jobs must be from 1 to 10,000, not 0"),
+    (solve(jobs="2"), TypeError, "jobs is '2', not a whole number"),
     (solve(progress=5), TypeError, "progress must be a function, not int"),
 ]
 

@@ -30,9 +30,9 @@ MOST_KILOBYTES = 200_000
 MOST_SECONDS = 2
 
 
-def apart(code, **how):
-    """Runs code of this module in a process of its own, which must succeed, and returns its output."""
-    words = [sys.executable, "-B", "-c", f"import safety; safety.{code}"]
+def apart(code, module="safety", **how):
+    """Runs code of a module in a process of its own, which must succeed, and returns its output."""
+    words = [sys.executable, "-B", "-c", f"import {module}; {module}.{code}"]
     environment = {**os.environ, "PYTHONPATH": os.pathsep.join(sys.path)}
     how.update(env=environment, stdout=subprocess.PIPE, stderr=subprocess.STDOUT, text=True)
     ran = subprocess.run(words, timeout=120, check=False, **how)

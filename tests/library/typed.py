@@ -33,7 +33,7 @@ def solve_tsp() -> List[int]:
 def solve_cvrp() -> List[List[int]]:
     """Returns the customers of routes. The result of a CVRP is Routes."""
     problem = tourkit.Problem.from_points([(0, 0), (3.5, 4), (0, 8)], demands=[0, 1, 2], capacity=2)
-    routes: tourkit.Routes = tourkit.solve(problem, progress=lambda routes: routes.cost > 5)
+    routes: tourkit.Routes = tourkit.solve(problem, jobs=2, progress=lambda routes: routes.cost > 5)
     known: Tuple[int, int, Tuple[int, ...]] = (problem.capacity, problem.depot, problem.demands)
     print(known, tourkit.check_solution(problem, routes).cost)
     return routes.customers + tourkit.solve(tourkit.CVRP("bakery.vrp")).customers
@@ -56,6 +56,10 @@ def main() -> None:
     picture: tourkit.Picture = tourkit.plot(problem, found)
     tour: List[int] = tourkit.read_tour("tri.tour")
     solution: List[List[int]] = tourkit.read_solution("bakery-plan.sol")
+    try:
+        tourkit.solve(problem, jobs=2)
+    except tourkit.Interrupted as stop:
+        print(stop.best.length if stop.best else 0)
     try:
         print(tourkit.near(problem, k=2).tolist(), distances.shape, text, picture.title, tour, solution, tourkit.__version__)
     except tourkit.Refused as fault:

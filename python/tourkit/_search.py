@@ -1,0 +1,147 @@
+"""Searches: calls of the library, for all runs at once or for each run by itself."""
+
+from __future__ import annotations
+
+import dataclasses
+from functools import partial
+from typing import Any, Dict, Optional, Tuple, Union
+
+from ._claims import tour_text
+from ._nearest import NearestTours, TooSlow
+from ._problem import Problem
+from ._results import Routes, Run, Tour, result_of
+from ._text import Text
+from ._threads import Pool
+from ._writing import write_texts
+
+Found = Union[Tour, Routes]
+Result = Tuple[int, Found]
+
+SEEDS = 2**32
+
+# The maximum number of bytes of the lines of a search, of the line of a run, and of the text of a tour or of routes. If there were more,
+# the search would be repeated.
+LINES = 4096
+LINE = 256
+TEXT = 1 << 22
+
+# A search with fewer trials takes less than a second or two, so its runs need not be known when it is interrupted.
+LONG = 50_000
+
+# If there are fewer trials than a quarter of the cities, a run may take less time than its preparation.
+FEW = 4
+
+# The maximum number of runs for each thread that are in progress or ready to start.
+AHEAD = 2
+
+
+def search(parameters: Text, problem: Text, start: Text, runs: int) -> Tuple[bytes, bytes]:
+    """Makes the search that the parameters specify. Returns the lines that the program prints, and the text of the tour or the routes."""
+    texts = [parameters, problem, start]
+    words = [word for text in texts for word in text.words]
+    _, (lines, text) = write_texts("tourkit_solve", texts, words, [LINES + LINE * runs, TEXT])
+    return lines, text
+
+
+class Search:
+    """The searches of a call of `solve`: one for each piece, with the keys of a parameter file apart from RUNS and SEED."""
+
+    def __init__(self, problem: Problem, keys: Dict[str, Any], runs: int, jobs: int) -> None:
+        self._problem, self._keys, self._runs, self._jobs = problem, keys, runs, jobs
+        self._nearest: Optional[NearestTours] = None
+        self._pool = Pool[Result](jobs)
+        self._before: Tuple[Run, ...] = ()
+        self._found: Dict[int, Run] = {}
+        self._best: Tuple[int, Optional[Found]] = (0, None)
+
+    def __enter__(self) -> Search:
+        return self
+
+    def __exit__(self, error: object, *_: object) -> None:
+        self._pool.end(waits=error is None)
+
+    @property
+    def best(self) -> Optional[Found]:
+        """The best tour of the runs that have been made, or the routes; `None` if there is none yet."""
+        best = self._best[1]
+        if not isinstance(best, Tour):
+            return best
+        found = [dataclasses.replace(run, run=len(self._before) + number) for number, run in sorted(self._found.items())]
+        return dataclasses.replace(best, runs=(*self._before, *found))
+
+    def make(self, seed: int, start: Optional[Text]) -> Found:
+        """Makes the runs with the seeds from this one on. Returns the best of them, with the runs made before."""
+        best = self.best
+        self._before, self._found = best.runs if isinstance(best, Tour) else (), {}
+        try:
+            if self._can_split(seed, start):
+                self._make_each(seed, start)
+            else:
+                self._make_all(seed, start)
+        except (TooSlow, MemoryError):
+            self._pool.end(waits=False)
+            self._pool = Pool[Result](self._jobs)
+            self._found, self._best = {}, (0, best)
+            self._make_all(seed, start)
+        found = self.best
+        assert found
+        return found
+
+    def _make_all(self, seed: int, start: Optional[Text]) -> None:
+        """Makes all runs by one call of the library."""
+        self._pool.start(partial(self._searched, 1, self._runs, seed, start))
+        _, found = self._pool.result()
+        if isinstance(found, Tour):
+            self._found = dict(enumerate(found.runs, 1))
+        self._best = (1, found)
+
+    def _can_split(self, seed: int, start: Optional[Text]) -> bool:
+        """Whether each run can be made by itself, and whether this is worthwhile."""
+        if self._runs == 1 or seed + self._runs > SEEDS or self._problem.kind == "cvrp":
+            return False
+        size = self._problem.size
+        trials: int = self._keys.get("MAX_TRIALS", size)
+        if self._jobs == 1 and trials * self._runs < LONG:
+            return False
+        return FEW * trials >= size or (self._jobs > 1 and not self._needs_tours(start))
+
+    def _needs_tours(self, start: Optional[Text]) -> bool:
+        """Whether each run starts from a nearest-neighbour tour of its own."""
+        construction: str = self._keys["CONSTRUCTION"]
+        return start is None and construction == "NEAREST"
+
+    def _make_each(self, seed: int, start: Optional[Text]) -> None:
+        """Makes each run by itself, in threads. The result is that of one search: the tour of the first run with the minimum length."""
+        for run in range(1, self._runs + 1):
+            if run - len(self._found) > AHEAD * self._jobs:
+                self._take(*self._pool.result())
+            self._pool.start(partial(self._searched, run, 1, seed + run - 1, self._start_of(run, start)))
+        while len(self._found) < self._runs:
+            self._take(*self._pool.result())
+
+    def _start_of(self, run: int, start: Optional[Text]) -> Optional[Text]:
+        """The initial tour of a run; `None` if the library constructs it. Run j starts from the nearest-neighbour tour of city j, and after
+        the last city, from that of city 1 again."""
+        before = (run - 1) % self._problem.size
+        if before == 0 or not self._needs_tours(start):
+            return start
+        self._nearest = self._nearest or NearestTours(self._problem)
+        return Text(tour_text(self._nearest.tour(before + 1), "initial_tour"), "tour")
+
+    def _take(self, run: int, found: Found) -> None:
+        """Adds the result of a run."""
+        assert isinstance(found, Tour)
+        number, best = self._best
+        is_first = not self._found or best is None
+        self._found[run] = found.runs[0]
+        if is_first or best is None or (found.length, run) < (best.length, number):
+            self._best = (run, found)
+
+    def _searched(self, run: int, runs: int, seed: int, start: Optional[Text]) -> Result:
+        """Makes some runs by one call of the library. Returns the number of the first one and the result. The parameters must contain file
+        names, but the library ignores them."""
+        names = {"PROBLEM_FILE": "-"} if start is None else {"PROBLEM_FILE": "-", "INITIAL_TOUR_FILE": "-"}
+        lines = (f"{key} = {value}\n" for key, value in {**names, **self._keys, "RUNS": runs, "SEED": seed}.items())
+        parameters = Text("".join(lines).encode(), "parameters")
+        told, text = search(parameters, self._problem._source, start or Text(b"", "tour"), runs)
+        return run, result_of(told, text, self._problem)
