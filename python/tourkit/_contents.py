@@ -3,11 +3,16 @@
 from __future__ import annotations
 
 import re
+from itertools import islice
 from typing import Dict, Iterator, List, Tuple
 
 # A keyword at the start of a text, and at the start of a later line.
 FIRST_KEYWORD = re.compile(rb"[ \t\r]*([A-Za-z]\w*)")
 LATER_KEYWORD = re.compile(rb"\n[ \t\r]*([A-Za-z]\w*)")
+
+# A word, and the colon after the keyword of a section.
+WORD = re.compile(rb"[^ \t\r\n]+")
+COLON = re.compile(rb"[ \t\r]*:")
 
 # The sections that EOF may end on the line of their last number.
 LISTS = (b"DEPOT_SECTION", b"TOUR_SECTION")
@@ -17,11 +22,23 @@ BLANKS = b" \t\r\n"
 
 def parts_of(text: bytes) -> Iterator[Tuple[bytes, int, int]]:
     """The keywords of an accepted text in capital letters, each with the start and the end of its header value or section."""
-    mark = FIRST_KEYWORD.match(text) or LATER_KEYWORD.search(text)
+    size, mark = 0, FIRST_KEYWORD.match(text) or LATER_KEYWORD.search(text)
     while mark and mark[1].upper() != b"EOF":
-        later = LATER_KEYWORD.search(text, mark.end())
-        yield mark[1].upper(), mark.end(), later.start() if later else len(text)
+        keyword, start = mark[1].upper(), mark.end()
+        is_display = keyword == b"DISPLAY_DATA_SECTION"
+        later = LATER_KEYWORD.search(text, end_of_words(text, start, 3 * size) if is_display else start)
+        end = later.start() if later else len(text)
+        yield keyword, start, end
+        if keyword == b"DIMENSION":
+            size = int(value_in(text[start:end]).split()[0])
         mark = later
+
+
+def end_of_words(text: bytes, start: int, count: int) -> int:
+    """The end of a section of this many words, any of which may begin with a letter."""
+    colon = COLON.match(text, start)
+    words = WORD.finditer(text, colon.end() if colon else start)
+    return max((word.end() for word in islice(words, count)), default=start)
 
 
 def value_in(part: bytes) -> bytes:

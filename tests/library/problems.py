@@ -1,12 +1,14 @@
-"""The members of a `Problem`, compared with the problems of tests/cases as the reference reader reads them."""
+"""The members of a `Problem`, compared with problems of tests/cases and with random ones as the reference reader reads them."""
 
 import pickle
+import random
 import sys
 from pathlib import Path
 
 TESTS = Path(__file__).resolve().parents[1]
 sys.path.append(str(TESTS / "readers"))
 
+import mutate
 import texts
 import tourkit
 
@@ -20,16 +22,24 @@ UNUSUAL = [
     b"COMMENT : NAME : x\nCOMMENT :\nNAME\nTYPE : TSP\nCAPACITY : 9\nDIMENSION : 2\nEDGE_WEIGHT_TYPE : CEIL_2D\n"
     b"NODE_COORD_SECTION 1 0 0 2\n1\n1\nEOF\nDEPOT_SECTION\n1\n",
     b"TYPE : CVRP\nDIMENSION : 3\nCAPACITY : +5 each\nDEPOT_SECTION : 2 EOF\nNAME : late",
+    b"NAME=a\nTYPE : TSP\nDIMENSION : 2\nEDGE_WEIGHT_TYPE : EXPLICIT\nEDGE_WEIGHT_FORMAT : UPPER_ROW\n"
+    b"DISPLAY_DATA_SECTION:\nNAME-b x y\nEOF-x NAME-b\nTYPE-cvrp\nEDGE_WEIGHT_SECTION\n5\n",
     b"TYPE : CVRP\nDIMENSION : 3\nCAPACITY : +5 each\nEDGE_WEIGHT_TYPE : EXPLICIT\nEDGE_WEIGHT_FORMAT : UPPER_ROW\n"
     b"EDGE_WEIGHT_SECTION\n1 2 3\n"
     b"NODE_COORD_SECTION\n1 5 5\n2 5 5\n3 5 5\nDEMAND_SECTION : 3 4 1 5\n2 0\nDEPOT_SECTION : 2 EOF\nNAME : late\nTYPE : TSP\n",
 ]
 
 
+def random_texts(commands):
+    """Random texts for these commands. Most of them have a fault."""
+    files = [file for seed in range(1_000) for file in mutate.case(random.Random(seed), commands)[1].values()]
+    return [file for file in files if isinstance(file, bytes)]
+
+
 def texts_of_cases():
     """The texts of tests/cases that might be problems."""
     files = [file for case in sorted(TESTS.glob("cases/*")) for file in (*case.glob("in/*"), case / "stdin") if file.is_file()]
-    return UNUSUAL + sorted({text for text in (file.read_bytes() for file in files) if b"DIMENSION" in text.upper()})
+    return UNUSUAL + random_texts(["near"]) + sorted({text for text in (file.read_bytes() for file in files) if b"DIMENSION" in text.upper()})
 
 
 def read_by_reference(text):
@@ -41,7 +51,7 @@ def read_by_reference(text):
 
 
 def try_members_of_texts():
-    """The members of a problem are what the reference reader reads, for each problem of tests/cases."""
+    """The members of a problem are what the reference reader reads, for each problem of tests/cases and random ones."""
     counts = {"tsp": 0, "cvrp": 0, "rejected": 0}
     for text in texts_of_cases():
         read = read_by_reference(text)
@@ -55,7 +65,7 @@ def try_members_of_texts():
         compare(problem, read)
         compare(pickle.loads(pickle.dumps(problem)), read)
         counts[problem.kind] += 1
-    assert min(counts.values()) > 40, counts
+    assert min(counts.values()) > 150, counts
 
 
 def compare(problem, read):

@@ -7,6 +7,7 @@ from pathlib import Path
 TESTS = Path(__file__).resolve().parents[1]
 sys.path.append(str(TESTS / "readers"))
 
+import problems
 import texts
 import tourkit
 
@@ -41,17 +42,17 @@ def compare(given, read, read_by_reference):
             raise AssertionError(f"{found!r} is read from {text!r}") from None
         assert read(text) == wanted, text[:200]
         counts["read"] += 1
-    assert min(counts.values()) > 10, counts
+    assert min(counts.values()) > 100, counts
 
 
 def try_tours():
     """`read_tour` returns the cities that the reference reader reads, or raises its fault."""
-    compare(TOURS + texts_of_cases(b"TOUR"), tourkit.read_tour, texts.read_tour)
+    compare(TOURS + problems.random_texts(["check"]) + texts_of_cases(b"TOUR"), tourkit.read_tour, texts.read_tour)
 
 
 def try_solutions():
     """`read_solution` returns the routes that the reference reader reads, or raises its fault."""
-    compare(SOLUTIONS + texts_of_cases(b"COST"), tourkit.read_solution, lambda text: texts.read_solution(text)[0])
+    compare(SOLUTIONS + problems.random_texts(["checksol"]) + texts_of_cases(b"COST"), tourkit.read_solution, lambda text: texts.read_solution(text)[0])
 
 
 def try_files():
