@@ -37,7 +37,7 @@ pub struct TourOptions<'a> {
 }
 
 /// The options of a search for routes.
-#[derive(Clone, Copy, PartialEq, Eq, Debug)]
+#[derive(Clone, Copy)]
 pub struct RouteOptions {
     /// Maximum length of the near lists, 1 to 100.
     pub candidates: u32,

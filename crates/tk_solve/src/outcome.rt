@@ -14,7 +14,7 @@ use tk_search::{Search, Totals};
 use tk_tour::{ArrayTour, length};
 
 /// The report of a run.
-#[derive(Clone, Copy, PartialEq, Eq, Debug)]
+#[derive(Clone, Copy)]
 pub struct RunReport {
     /// The length of its best tour.
     pub best: i64,

@@ -5,7 +5,7 @@ ghost use Rattle.tk_solve.specs.Events.{Begun, Tried, Ended};
 use crate::outcome::RunReport;
 
 /// The progress of a search.
-#[derive(Clone, Copy, PartialEq, Eq, Debug)]
+#[derive(Clone, Copy)]
 pub struct Progress {
     /// The run, counted from 1.
     pub run: u32,
