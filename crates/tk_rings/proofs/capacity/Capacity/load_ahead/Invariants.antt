@@ -1,0 +1,16 @@
+use Rattle.std.proofs.Common.{◌≤◌, ◌*◌, ◌^◌, length}
+use Rattle.tk_distance.specs.Cities.{IsCity}
+use Rattle.tk_rings.specs.Loads.{HasLoads}
+use Rattle.tk_rings.specs.declared.stretch.Stretch.{Stretch}
+use Rattle.tk_rings.proofs.Walks.{Walked}
+use Rattle.tk_rings.proofs.capacity.Capacity.load_ahead.Given as goal
+
+abbrev pub invariant-loop-k : goal.invariant-loop-k
+invariant-loop-k g l =
+    let C = g.S.TourStore.cities l.tour in
+    record {
+      city : IsCity (length C) l.c;
+      limit : l.load ≤ 2 ^ 32 * l.k;
+      walked : (s : Stretch) (h : HasLoads l.self.capacity l.self.demands.now C l.walk s) →
+          Walked l.self.capacity l.self.demands.now h.path l.c l.k l.load;
+    }
