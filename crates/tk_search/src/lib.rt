@@ -5,7 +5,7 @@ mod double_bridges;
 mod trials;
 
 pub use double_bridges::cuts::Cuts;
-pub use double_bridges::kicking::kick;
+pub use double_bridges::kicking::{bridged_length, kick};
 pub use trials::descending::SearchRules;
 pub use trials::laws::{
     best_is_a_tour, best_is_first_of_the_shortest, best_is_no_longer_than_the_start,

@@ -39,7 +39,7 @@ fn four_steps<M: Metric>(metric: &M, cities: [u32; 8]) -> i64
 }
 
 /// The length of a tour after the double bridge, from its length before and the first and the last city of each part.
-pub(crate) fn bridged_length<M: Metric>(metric: &M, before: i64, ends: [u32; 8]) -> i64
+pub fn bridged_length<M: Metric>(metric: &M, before: i64, ends: [u32; 8]) -> i64
     requires cities { All (IsCity (M.size_of metric.now)) ends }
     requires before { (pos 0 ≤ℤ before) × (before ≤ℤ pos 400000000000000) }
     ensures { result +ℤ pos (steps_out (M.distance metric.now) ends)
