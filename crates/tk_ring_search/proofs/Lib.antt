@@ -1,0 +1,6 @@
+pub mod BoundedRuns
+pub mod FreshCounts
+pub mod NextTrials
+pub mod Parts
+pub mod Runs
+pub mod Settling

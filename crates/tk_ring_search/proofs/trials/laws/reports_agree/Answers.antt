@@ -1,0 +1,5 @@
+use Rattle.tk_ring_search.proofs.Runs.{agree}
+use Rattle.tk_ring_search.proofs.trials.laws.reports_agree.Goals as goal
+
+pub returns : goal.returns
+returns c = agree

@@ -1,0 +1,10 @@
+pub mod Best
+pub mod Descents
+pub mod Drawing
+pub mod Given
+pub mod Judging
+pub mod Kicks
+pub mod RingLaws
+pub mod SearchOf
+pub mod Searching
+pub mod Totals

@@ -1,0 +1,4 @@
+//! Kicks of a ring.
+
+pub mod drawing;
+pub mod kick;
