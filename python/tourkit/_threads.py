@@ -2,9 +2,9 @@
 
 from __future__ import annotations
 
+import _thread
 import queue
-import threading
-from typing import Any, Callable, Generic, List, Tuple, TypeVar, Union
+from typing import Any, Callable, Generic, Tuple, TypeVar, Union
 
 R = TypeVar("R")
 
@@ -16,39 +16,35 @@ class Pool(Generic[R]):
     """Threads that make calls. After an exception, such as an interrupt, they end with their current calls, and they do not keep the process
     from ending.
 
-    A pool is used for many calls, because Python loses an interrupt that comes while it removes the object of a thread."""
+    The functions of `threading` may lose an interrupt that comes while they start a thread or remove its object, so `_thread` is used."""
 
     def __init__(self, jobs: int) -> None:
         self._tasks: queue.SimpleQueue[Union[Callable[[], R], None]] = queue.SimpleQueue()
         self._results: queue.SimpleQueue[Tuple[bool, Any]] = queue.SimpleQueue()
-        self._jobs, self._started, self._ended = jobs, 0, False
-        self._threads: List[threading.Thread] = []
+        self._jobs, self._threads, self._started, self._ended = jobs, 0, 0, False
 
     def end(self, waits: bool) -> None:
         """Lets the threads end, and waits for that if there are no more calls."""
         self._ended = True
-        for _thread in self._threads:
+        for _ in range(self._threads + 1):  # an interrupt may have come before a new thread was counted
             self._tasks.put(None)
-        if waits:
-            for thread in self._threads:
-                thread.join()
+        for _ in range(self._threads if waits else 0):
+            self._results.get()
 
     def start(self, task: Callable[[], R]) -> None:
         """Lets a thread make a call, as soon as one is free."""
         self._tasks.put(task)
         self._started += 1
-        if len(self._threads) < min(self._started, self._jobs):
+        if self._threads < min(self._started, self._jobs):
             self._add_thread()
 
     def _add_thread(self) -> None:
         """Starts another thread. If there cannot be one, this thread makes the call."""
-        thread = threading.Thread(target=self._work, daemon=True)
-        self._threads.append(thread)
         try:
-            thread.start()
+            _thread.start_new_thread(self._work, ())
+            self._threads += 1
         except RuntimeError:
-            self._threads.pop()
-            if not self._threads:
+            if self._threads == 0:
                 self._make(self._tasks.get())
 
     def result(self) -> R:
@@ -65,9 +61,10 @@ class Pool(Generic[R]):
             raise result
 
     def _work(self) -> None:
-        """Makes calls until there are no more."""
+        """Makes calls until there are no more. Then reports that the thread ends."""
         while self._make(self._tasks.get()):
             pass
+        self._results.put((True, None))
 
     def _make(self, task: Union[Callable[[], R], None]) -> bool:
         """Makes a call and keeps its result. Returns whether there was one to make."""

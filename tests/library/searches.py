@@ -1,5 +1,6 @@
 """Searches with runs in threads, compared with those of the program, and searches that an interrupt ends."""
 
+import _thread
 import contextlib
 import os
 import random
@@ -137,7 +138,7 @@ def try_too_few_threads():
     def fail(*_, **__):
         raise error
 
-    for error, module, name in ((RuntimeError("no thread"), threading.Thread, "start"), (MemoryError(), _search, "NearestTours")):
+    for error, module, name in ((RuntimeError("no thread"), _thread, "start_new_thread"), (MemoryError(), _search, "NearestTours")):
         before = getattr(module, name)
         setattr(module, name, fail)
         try:
@@ -148,7 +149,7 @@ def try_too_few_threads():
 
 def try_errors():
     """An error of a call in a thread is raised, and no thread is left."""
-    before = threading.active_count()
+    before = count_threads()
     try:
         tourkit.solve("square.tsp", initial_tour="twice.tour", jobs=3)
     except tourkit.Refused as fault:
@@ -156,11 +157,16 @@ def try_errors():
     wait_for_threads(before)
 
 
+def count_threads():
+    """Returns the number of threads of this process."""
+    return len(os.listdir("/proc/self/task"))
+
+
 def wait_for_threads(count):
     """Waits until no more threads than these are active."""
     end = time.monotonic() + 5
-    while threading.active_count() > count:
-        assert time.monotonic() < end, threading.enumerate()
+    while count_threads() > count:
+        assert time.monotonic() < end, count_threads()
         time.sleep(0.01)
 
 
