@@ -43,7 +43,8 @@ _tourkit_arguments() {
         explain:0)
             _tourkit_words "UnknownKeyword Repeated Missing Unsupported BadNumber OutOfLimit BadNode NotSymmetric
                 Truncated TrailingData BadDepot DemandOverCapacity TooLong Read NoMemory UnknownKey RepeatedKey BadValue
-                MissingProblem DollarInName WrongCount OutOfRange RepeatedCity"
+                MissingProblem DollarInName WrongCount OutOfRange RepeatedCity BadCustomer ServedTwice OverCapacity NotServed
+                WrongCost"
             _tourkit_files
             ;;
         explain:* | --completions:*) ;;

@@ -19,7 +19,7 @@ complete -c tourkit -n '__fish_seen_subcommand_from checksol' -l json -d 'print 
 complete -c tourkit -n '__fish_seen_subcommand_from explain; and __fish_is_nth_token 2' -d fault \
     -a 'UnknownKeyword Repeated Missing Unsupported BadNumber OutOfLimit BadNode NotSymmetric Truncated TrailingData
         BadDepot DemandOverCapacity TooLong Read NoMemory UnknownKey RepeatedKey BadValue MissingProblem DollarInName
-        WrongCount OutOfRange RepeatedCity'
+        WrongCount OutOfRange RepeatedCity BadCustomer ServedTwice OverCapacity NotServed WrongCost'
 complete -c tourkit -n '__fish_seen_subcommand_from explain; and __fish_is_nth_token 3' -f
 
 complete -c tourkit -n '__fish_seen_subcommand_from matrix; and __fish_is_nth_token 3' -f \

@@ -47,7 +47,8 @@ _tourkit_arguments() {
         explain:0)
             _tourkit_words "UnknownKeyword Repeated Missing Unsupported BadNumber OutOfLimit BadNode NotSymmetric
                 Truncated TrailingData BadDepot DemandOverCapacity TooLong Read NoMemory UnknownKey RepeatedKey BadValue
-                MissingProblem DollarInName WrongCount OutOfRange RepeatedCity"
+                MissingProblem DollarInName WrongCount OutOfRange RepeatedCity BadCustomer ServedTwice OverCapacity NotServed
+                WrongCost"
             _tourkit_files
             ;;
         explain:* | --completions:*) ;;
@@ -88,7 +89,7 @@ _tourkit_what() {
     local -a faults
     faults=(UnknownKeyword Repeated Missing Unsupported BadNumber OutOfLimit BadNode NotSymmetric Truncated TrailingData
         BadDepot DemandOverCapacity TooLong Read NoMemory UnknownKey RepeatedKey BadValue MissingProblem DollarInName
-        WrongCount OutOfRange RepeatedCity)
+        WrongCount OutOfRange RepeatedCity BadCustomer ServedTwice OverCapacity NotServed WrongCost)
     _alternative 'faults:fault:compadd -a faults' 'files:file:_files'
 }
 
@@ -194,7 +195,7 @@ complete -c tourkit -n '__fish_seen_subcommand_from checksol' -l json -d 'print 
 complete -c tourkit -n '__fish_seen_subcommand_from explain; and __fish_is_nth_token 2' -d fault \
     -a 'UnknownKeyword Repeated Missing Unsupported BadNumber OutOfLimit BadNode NotSymmetric Truncated TrailingData
         BadDepot DemandOverCapacity TooLong Read NoMemory UnknownKey RepeatedKey BadValue MissingProblem DollarInName
-        WrongCount OutOfRange RepeatedCity'
+        WrongCount OutOfRange RepeatedCity BadCustomer ServedTwice OverCapacity NotServed WrongCost'
 complete -c tourkit -n '__fish_seen_subcommand_from explain; and __fish_is_nth_token 3' -f
 
 complete -c tourkit -n '__fish_seen_subcommand_from matrix; and __fish_is_nth_token 3' -f \
