@@ -1,0 +1,15 @@
+//! The search between routes of a CVRP, between reading and writing: a start, runs of trials, and the best routes.
+#![tactic(auto)]
+
+mod ladder;
+mod options;
+mod outcome;
+mod routes;
+mod search;
+mod start;
+mod watch;
+
+pub use options::{RouteStart, SearchOptions};
+pub use outcome::RouteRun;
+pub use routes::{SolvedRoutes, search_routes};
+pub use watch::{RouteProgress, RouteWatch, Unwatched};
