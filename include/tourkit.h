@@ -47,13 +47,18 @@ enum {
 /* The numbers of faults in `kind`, from 16 on. Lower numbers are those of faults in texts, or of faults in parameters if
  * the parameters were rejected. */
 enum {
-    TOURKIT_WRONG_TYPE = 16,   /* the problem is not a CVRP */
-    TOURKIT_NOT_FOR_TYPE = 17, /* the parameters contain a key that does not apply to a problem of this type */
-    TOURKIT_TOO_LARGE = 18,    /* the problem has over 5,000 nodes, too many for a matrix */
-    TOURKIT_NO_PLACES = 19,    /* the problem has explicit weights instead of coordinates, so it cannot be drawn */
-    TOURKIT_WRONG_COUNT = 20,  /* the number of entries in a list of cities is not the number of cities of the problem */
-    TOURKIT_OUT_OF_RANGE = 21, /* the entry at `place` is not a city */
-    TOURKIT_REPEATED_CITY = 22 /* the entry at `place` also occurs at an earlier place */
+    TOURKIT_WRONG_TYPE = 16,    /* the problem is not a CVRP */
+    TOURKIT_NOT_FOR_TYPE = 17,  /* the parameters contain a key that does not apply to a problem of this type */
+    TOURKIT_TOO_LARGE = 18,     /* the problem has over 5,000 nodes, too many for a matrix */
+    TOURKIT_NO_PLACES = 19,     /* the problem has explicit weights instead of coordinates, so it cannot be drawn */
+    TOURKIT_WRONG_COUNT = 20,   /* the number of entries in a list of cities is not the number of cities of the problem */
+    TOURKIT_OUT_OF_RANGE = 21,  /* the entry at `place` is not a city */
+    TOURKIT_REPEATED_CITY = 22, /* the entry at `place` also occurs at an earlier place */
+    TOURKIT_BAD_CUSTOMER = 23,  /* route number `place` contains a number that is not a customer */
+    TOURKIT_SERVED_TWICE = 24,  /* customer `place` also occurs earlier */
+    TOURKIT_OVER_CAPACITY = 25, /* the load of route number `place` exceeds the capacity */
+    TOURKIT_NOT_SERVED = 26,    /* customer `place` is on no route */
+    TOURKIT_WRONG_COST = 27     /* the routes do not have the cost that the solution states */
 };
 
 /* Distance types of cities with coordinates. */
@@ -71,11 +76,23 @@ typedef struct {
     uint32_t text;      /* the number of the rejected text, from 1; 0 for none */
     uint64_t line;      /* the line of the fault, from 1; 0 for none */
     uint32_t kind;      /* the number of the fault; 0 for none */
-    uint32_t place;     /* the place of the fault in a tour, from 1; 0 for none */
+    uint32_t place;     /* the place of the fault in a tour, from 1, or the number of the route or customer; 0 for none */
     uint64_t length;    /* the length of a tour, from tourkit_check_cities and the other checks of arrays */
     size_t needed;      /* the number of bytes or numbers to write */
-    size_t needed_file; /* like `needed`, for the second buffer of tourkit_solve and tourkit_plot */
+    size_t needed_file; /* like `needed`, for the second buffer of tourkit_solve, tourkit_solve_routes and tourkit_plot */
 } tourkit_answer;
+
+/* The options of a search between routes. The program uses one run, ten trials for each node, seed 1, 12 candidates and
+ * segments of 3 customers by default. */
+typedef struct {
+    uint32_t runs;       /* the number of runs, 1 to 10,000 */
+    uint32_t trials;     /* the number of trials per run, 1 to 1,000,000; 0 for ten for each node */
+    uint32_t seed;       /* the seed of the first run; run j uses seed + j - 1 */
+    uint32_t candidates; /* the maximum length of near lists, 1 to 100 */
+    uint32_t or_segment; /* the maximum number of customers in a segment that is moved, 1 to 3 */
+    bool final_sweep;    /* whether each descent is swept: it ends only when no customer has an improving move */
+    bool from_solution;  /* whether each run begins with the routes of an initial solution; otherwise with savings routes */
+} tourkit_route_options;
 
 /* ---- texts in, texts out */
 
@@ -108,6 +125,17 @@ void tourkit_matrix(const uint8_t *problem, size_t problem_size,
 void tourkit_solve(const uint8_t *parameters, size_t parameters_size, const uint8_t *problem, size_t problem_size,
                    const uint8_t *initial, size_t initial_size, uint8_t *out, size_t out_size,
                    uint8_t *file, size_t file_size, tourkit_answer *answer);
+
+/* Searches between the routes of a CVRP. `file` gets the text of the solution, and `out` the lines that the program prints.
+ * `initial` is a solution, which is read if `from_solution` is true. A number of `options` that is out of range is rejected.
+ * If a text is rejected, or the problem is not a CVRP, or the routes of `initial` are not valid, `out` gets the message.
+ *
+ * tourkit_solve improves each route of a CVRP by itself, as a parameter file does. This search also moves customers between
+ * routes. It can be split into short calls too: each with one run, few trials, a new seed and the last solution as `initial`.
+ * For `file`, 24 bytes for each node and another 100 are enough. */
+void tourkit_solve_routes(const uint8_t *problem, size_t problem_size, const uint8_t *initial, size_t initial_size,
+                          const tourkit_route_options *options, uint8_t *out, size_t out_size,
+                          uint8_t *file, size_t file_size, tourkit_answer *answer);
 
 /* Draws a problem, and if `has_claim` is true, the tour or the routes of a text: `out` gets the picture (SVG), of `needed`
  * bytes. If the tour or the routes have a fault, the status is TOURKIT_FOUND, and `told` gets the line that reports it, of

@@ -1,8 +1,9 @@
 // The page of `tourkit plot --html`: zoom and pan, the city at the pointer, and the table of routes.
 //
-// The program writes the data. #stage contains the picture, #routes the table, and two blocks contain numbers:
+// The program writes the data. #stage contains the picture, #routes the table, and three blocks contain numbers:
 //     #cities    line c is city c: <across>,<down> <x> <y> [<demand> [depot]], with x and y in units of 10^-9
 //     #paths     line k has the cities of the k-th closed line of the picture, which is the k-th row of the table
+//     #legs      only with a table: line k has the number of that route, and the lengths of its legs
 // There are three kinds of coordinates: <across> and <down>, as in the lines of the picture; units of the picture's viewBox; and
 // pixels from the top left corner of the stage.
 'use strict';
@@ -26,7 +27,9 @@ const clamp = (low, value, high) => Math.max(low, Math.min(high, value));
 // ---- the data of the program
 
 const stage = byId('stage'), svg = stage.querySelector('svg'), group = svg.querySelector('g');
-const polygons = [...group.querySelectorAll('polygon')], routeNumbers = [...group.querySelectorAll('text')];
+svg.querySelector('.halo')?.remove();                           // the style of the page gives the numbers a halo that keeps its width
+const lines = [...group.querySelectorAll(':scope > polygon, :scope > polyline')], routeNumbers = [...group.querySelectorAll('text')];
+const depotLines = group.querySelector('.depot-lines');         // null if the lines of a route are not parted
 const table = document.querySelector('#routes table');          // null without routes
 
 function linesOf(id) {
@@ -66,11 +69,16 @@ const drawing = (kind, attributes) => element(kind, attributes, 'http://www.w3.o
 
 // A copy of the highlighted route, above the other lines.
 const lit = drawing('polygon', { id: 'lit', points: '' });
-if (polygons.length > 0) polygons.at(-1).after(lit);
+if (lines.length > 0) lines.at(-1).after(lit);
 
 // The points in view, for a picture without points.
-const nearDots = group.querySelector('path[stroke="black"]') ? null : drawing('path', { stroke: 'black', d: '' });
+const dots = group.querySelector('path[stroke="black"]');
+const nearDots = dots !== null ? null : drawing('path', { stroke: 'black', d: '' });
 if (nearDots !== null) lit.after(nearDots);
+
+// The stops of the highlighted route, above the other points.
+const litStops = drawing('path', { id: 'stops', stroke: 'black', d: '' });
+(dots ?? nearDots).after(litStops);
 
 // The mark and the tip are above the picture, not in it, so that the picture is not redrawn when they move.
 const mark = element('div', { id: 'mark', hidden: '' }), tip = element('div', { id: 'tip', hidden: '', 'aria-hidden': 'true' });
@@ -87,6 +95,7 @@ function prepareStage() {
     if (square !== null) square.setAttribute('d', square.getAttribute('d').replace(/m.*/, 'h0'));
 
     const parts = byId('parts').content;
+    if (depotLines === null) parts.querySelector('[data-do=depot]').remove();
     stage.after(parts.getElementById('below'));
     stage.before(parts);
     stage.append(mark, tip);
@@ -176,13 +185,16 @@ function setWidths(scale) {
     svg.style.setProperty('--line', clamp(0.6, 0.08 * apart, count < HEAVY ? 1.5 : 1));       // up to one pixel, browsers draw faster
     svg.style.setProperty('--dot', dot);
     svg.classList.toggle('fine', dot < 2);
-    svg.classList.toggle('crowded', side / Math.sqrt(polygons.length) < ROOM);
+    svg.classList.toggle('crowded', side / Math.sqrt(lines.length) < ROOM);
 }
+
+const spotOf = city => `${across[city]},${down[city]}`;
+const dotsOf = found => found.map(city => `M${spotOf(city)}h0`).join('');
 
 function drawNearDots() {
     const expected = count * width * height * (view.scale / (SPOTS * unit)) ** 2;
     const found = expected > 4 * FEW ? [] : citiesIn(...toSpot(0, 0), ...toSpot(width, height));
-    nearDots.setAttribute('d', found.length > FEW ? '' : found.map(city => `M${across[city]},${down[city]}h0`).join(''));
+    nearDots.setAttribute('d', found.length > FEW ? '' : dotsOf(found));
 }
 
 // Moves and scales a heavy picture as it was drawn, until the movement pauses.
@@ -191,6 +203,14 @@ function drawWhenResting() {
     svg.style.transform = `translate(${x}px, ${y}px) scale(${drawn.scale / view.scale})`;
     clearTimeout(resting);
     resting = setTimeout(draw, REST);
+}
+
+const isZoomed = () => view.scale < 0.999 * wholeScale();
+
+// Follows a change of the view: places the tip, and decides what a finger moves.
+function follow() {
+    placeTip();
+    stage.classList.toggle('zoomed', isZoomed());
 }
 
 // Sets the view, and keeps its centre within the picture.
@@ -203,7 +223,7 @@ function moveTo(x, y, scale) {
         scale,
     };
     if (count < HEAVY) draw(); else drawWhenResting();
-    placeTip();
+    follow();
 }
 
 const moveBy = (x, y) => moveTo(view.x - x * view.scale, view.y - y * view.scale, view.scale);
@@ -219,13 +239,13 @@ function showWhole() {
     view = { x: whole.x + (whole.width - width * scale) / 2, y: whole.y + (whole.height - height * scale) / 2, scale };
     isWhole = true;
     draw();
-    placeTip();
+    follow();
 }
 
 function measure() {
     width = Math.max(1, stage.clientWidth);
     height = Math.max(1, stage.clientHeight);
-    if (isWhole) showWhole(); else { draw(); placeTip(); }
+    if (isWhole) showWhole(); else { draw(); follow(); }
 }
 
 // ---- the selected city
@@ -240,10 +260,11 @@ function decimal(units) {
     return sign + digits.slice(0, -9) + (fraction === '' ? '' : '.' + fraction);
 }
 
+const customerOf = city => city > depot ? city - 1 : city;     // as solutions number them
+
 function roleOf(city) {
     if (city === depot) return ', the depot';
-    if (depot === 0) return '';
-    return `, customer ${city > depot ? city - 1 : city}`;       // as solutions number them
+    return depot === 0 ? '' : `, customer ${customerOf(city)}`;
 }
 
 function placeOnLine(city) {
@@ -301,14 +322,17 @@ let kept = -1;                  // the route that stays highlighted when the poi
 
 function light(k) {
     svg.classList.toggle('faded', k >= 0);
-    lit.setAttribute('points', k < 0 ? '' : polygons[k].getAttribute('points'));
-    if (k >= 0) lit.setAttribute('stroke', polygons[k].getAttribute('stroke'));
+    const path = k < 0 ? [] : paths[k];
+    lit.setAttribute('points', path.map(spotOf).join(' '));
+    if (k >= 0) lit.setAttribute('stroke', lines[k].getAttribute('stroke'));
+    litStops.setAttribute('d', dotsOf(path.filter(city => city !== depot)));
     routeNumbers.forEach((text, i) => text.classList.toggle('chosen', i === k));
 }
 
 function keep(k) {
     kept = k;
     light(k);
+    if (k !== opened) closeStops();
     rows.forEach((row, i) => row.button.setAttribute('aria-pressed', i === k));
     if (k < 0) return;
     const [, customers, load, share, length] = rows[k].values;
@@ -328,6 +352,78 @@ function scrollToRow(line) {
     if (top < 0 || top > list.clientHeight - line.offsetHeight) list.scrollTop = line.offsetTop - list.clientHeight / 2;
 }
 
+// ---- the stops of a route, in a list below its row
+
+let opened = -1;                // the route whose stops are listed; -1 if there is none
+const stops = element('tr', { class: 'stops' });
+
+function closeStops() {
+    if (opened >= 0) rows[opened].button.setAttribute('aria-expanded', 'false');
+    opened = -1;
+    stops.remove();
+}
+
+function openStops(k) {
+    const cell = element('td', { colspan: 5 });
+    cell.append(listOf(k));
+    stops.replaceChildren(cell);
+    rows[k].line.after(stops);
+    rows[k].button.setAttribute('aria-expanded', 'true');
+    opened = k;
+}
+
+// Opens the list of a route, and highlights the route, or ends both.
+function toggleStops(k) {
+    const closes = opened === k;
+    keep(closes ? -1 : k);
+    if (!closes) openStops(k);
+}
+
+// A line of a list. Its first cell is its heading, or all cells are headings of their columns.
+function lineOf(scope, [first, ...others]) {
+    const line = element('tr', {});
+    for (const [kind, scoped, content] of [['th', scope, first], ...others.map(one => [scope === 'col' ? 'th' : 'td', scope, one])]) {
+        const cell = element(kind, kind === 'th' ? { scope: scoped } : {});
+        cell.append(content);
+        line.append(cell);
+    }
+    return line;
+}
+
+// The customers of a route in order, with their demands, the load after each, and the length of the leg to it.
+function listOf(k) {
+    const list = element('table', {}), head = element('thead', {}), body = element('tbody', {});
+    const legs = linesOf('legs')[k].split(' ').slice(1), buttons = [];
+    let load = 0;
+    head.append(lineOf('col', ['Customer', 'Demand', 'Load after', 'Leg']));
+    for (const [stop, city] of paths[k].slice(1).entries()) {
+        const demand = Number(cities[city - 1].split(' ')[3]), button = element('button', { type: 'button', tabindex: stop === 0 ? 0 : -1 });
+        load += demand;
+        button.append(customerOf(city));
+        button.addEventListener('click', () => { goTo(city); stage.scrollIntoView({ block: 'nearest' }); });
+        buttons.push(button);
+        body.append(lineOf('row', [button, demand, load, legs[stop]]));
+    }
+    body.append(lineOf('row', ['Depot', '', '', legs.at(-1)]));
+    list.append(head, body);
+    roam(body, () => buttons);
+    return list;
+}
+
+// Tab stops at only one of some buttons, the one that had the focus last; arrow keys go to the others.
+function roam(body, listed) {
+    body.addEventListener('focusin', event => {
+        if (listed().includes(event.target)) for (const button of listed()) button.setAttribute('tabindex', button === event.target ? 0 : -1);
+    });
+    body.addEventListener('keydown', event => {
+        const buttons = listed(), from = buttons.indexOf(document.activeElement);
+        const to = { ArrowDown: from + 1, ArrowUp: from - 1, Home: 0, End: buttons.length - 1 }[event.key];
+        if (from < 0 || buttons[to] === undefined) return;
+        event.preventDefault();
+        buttons[to].focus();
+    });
+}
+
 // ---- the table
 
 const rows = table === null ? [] : [...table.tBodies[0].rows].map(prepareRow);
@@ -337,11 +433,11 @@ function prepareRow(line, k) {
     const head = line.cells[0], name = head.textContent.trim();
     const values = [...line.cells].map(cell => parseInt(cell.textContent, 10));
     const swatch = element('span', { class: 'swatch' });
-    swatch.style.setProperty('--colour', polygons[k].getAttribute('stroke'));
-    const button = element('button', { type: 'button', 'aria-pressed': 'false', tabindex: k === 0 ? 0 : -1 });
+    swatch.style.setProperty('--colour', lines[k].getAttribute('stroke'));
+    const button = element('button', { type: 'button', 'aria-pressed': 'false', 'aria-expanded': 'false', tabindex: k === 0 ? 0 : -1 });
     button.append(swatch, name);
     head.replaceChildren(button);
-    button.addEventListener('click', () => keep(kept === k ? -1 : k));
+    button.addEventListener('click', () => toggleStops(k));
     line.addEventListener('pointerenter', () => light(k));
     line.addEventListener('pointerleave', () => light(kept));
     return { name, line, button, values };
@@ -360,26 +456,13 @@ function sortBy(column, head) {
     head.setAttribute('aria-sort', falls ? 'descending' : 'ascending');
     listed = rows.slice().sort((a, b) => (falls ? -1 : 1) * (a.values[column] - b.values[column]));
     table.tBodies[0].append(...listed.map(row => row.line));
-}
-
-// Tab stops at only one button of the rows, the one that had the focus last; arrow keys go to the others.
-function holdFocus(event) {
-    for (const row of rows) row.button.setAttribute('tabindex', row.button === event.target ? 0 : -1);
-}
-
-function moveFocus(event) {
-    const from = listed.findIndex(row => row.button === document.activeElement);
-    const to = { ArrowDown: from + 1, ArrowUp: from - 1, Home: 0, End: listed.length - 1 }[event.key];
-    if (from < 0 || listed[to] === undefined) return;
-    event.preventDefault();
-    listed[to].button.focus();
+    if (opened >= 0) rows[opened].line.after(stops);
 }
 
 if (table !== null) {
     [...table.tHead.rows[0].cells].forEach(prepareHeading);
     table.tHead.rows[0].cells[0].setAttribute('aria-sort', 'ascending');
-    table.tBodies[0].addEventListener('focusin', holdFocus);
-    table.tBodies[0].addEventListener('keydown', moveFocus);
+    roam(table.tBodies[0], () => listed.map(row => row.button));
 }
 
 // ---- keys and buttons
@@ -396,10 +479,16 @@ function endAll() {
     status.textContent = '';
 }
 
+// Hides the lines to and from the depot, or shows them again. A highlighted route keeps its own.
+function switchDepotLines() {
+    const button = document.querySelector('[data-do=depot]');
+    button.setAttribute('aria-pressed', !svg.classList.toggle('bare'));
+}
+
 const deeds = {
     in: () => zoom(1 / 1.5), out: () => zoom(1.5), whole: showWhole,
     left: () => moveBy(STEP, 0), right: () => moveBy(-STEP, 0), up: () => moveBy(0, STEP), down: () => moveBy(0, -STEP),
-    next: () => step(1), before: () => step(-1), light: () => keepOf(shown),
+    next: () => step(1), before: () => step(-1), light: () => keepOf(shown), depot: switchDepotLines,
 };
 const deedOfKey = {
     '+': 'in', '=': 'in', '-': 'out', '\u2212': 'out', 0: 'whole', Home: 'whole',
@@ -433,6 +522,9 @@ function pixelsOf(event) {
     return [event.clientX - box.left - stage.clientLeft, event.clientY - box.top - stage.clientTop];
 }
 
+// While the whole picture is shown, a finger moves the page, which the browser does.
+const movesPage = event => event.pointerType === 'touch' && !isZoomed();
+
 const cityAt = event => nearest(...toSpot(...pixelsOf(event)), REACH * view.scale / unit);
 
 // If one of two fingers moves, the picture pans by half of its movement, and zooms about the point between the fingers.
@@ -455,7 +547,7 @@ stage.addEventListener('pointermove', event => {
     held.set(event.pointerId, to);
     const others = [...held.keys()].filter(id => id !== event.pointerId);
     if (others.length === 1) pinch(from, to, held.get(others[0]));
-    else if (others.length === 0 && strayed > 4) moveBy(to[0] - from[0], to[1] - from[1]);
+    else if (others.length === 0 && strayed > 4 && !movesPage(event)) moveBy(to[0] - from[0], to[1] - from[1]);
 });
 stage.addEventListener('pointerup', event => {
     if (!held.delete(event.pointerId) || held.size > 0 || strayed > 4) return;

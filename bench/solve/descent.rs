@@ -55,6 +55,8 @@ pub struct Counts {
     pub moves: u64,
     pub tests: u64,
     pub gained: i64,
+    /// The flips that the moves consist of.
+    pub flips: u64,
 }
 
 /// The segments from x: of one city, of two forward and backward, of three forward and backward.
@@ -139,8 +141,29 @@ fn existing_by_city(x: u32, around: &[[u32; 3]; 2], y: u32, ys: [u32; 2]) -> u32
     bits
 }
 
+/// Which moves may be made.
+pub trait Rule {
+    /// Whether each move may be made.
+    const IS_FREE: bool = false;
+
+    fn allows(&self, s: &Store, offer: Offer) -> bool;
+}
+
+/// Each move may be made.
+pub struct Free;
+
+impl Rule for Free {
+    const IS_FREE: bool = true;
+
+    #[inline(always)]
+    fn allows(&self, _: &Store, _: Offer) -> bool {
+        true
+    }
+}
+
 /// What a descent goes by.
-pub struct Rules<'a, M> {
+pub struct Rules<'a, M, R> {
+    rule: R,
     metric: &'a M,
     near: &'a Near,
     /// All cities in the order in which they wake.
@@ -153,16 +176,16 @@ pub struct Rules<'a, M> {
     in_order: bool,
 }
 
-impl<'a, M: Metric> Rules<'a, M> {
+impl<'a, M: Metric, R: Rule> Rules<'a, M, R> {
     /// m is the greatest number of cities of a segment.
-    pub fn new(metric: &'a M, near: &'a Near, m: u32, cities: &'a [u32], in_order: bool) -> Rules<'a, M> {
+    pub fn new(rule: R, metric: &'a M, near: &'a Near, m: u32, cities: &'a [u32], in_order: bool) -> Rules<'a, M, R> {
         let offers = match (metric.size(), m) {
             (5.., 3) => 0xfff,
             (4.., 2..) => 0xff,
             (3.., _) => 0xf,
             _ => 0x3,
         };
-        Rules { metric, near, cities, offers, beside: [-3, -2, -1, 0, 1, 2, 3].map(existing), in_order }
+        Rules { rule, metric, near, cities, offers, beside: [-3, -2, -1, 0, 1, 2, 3].map(existing), in_order }
     }
 
     /// The bits of the offers of x and y that exist.
@@ -186,7 +209,7 @@ impl<'a, M: Metric> Rules<'a, M> {
         }
     }
 
-    /// The first offer of x with positive gain, and the gain.
+    /// The first offer of x with positive gain that may be made, and the gain.
     #[inline(always)]
     fn look(&self, s: &Store, tests: &mut u64, x: u32) -> Option<(Offer, i64)> {
         let metric = self.metric;
@@ -200,6 +223,7 @@ impl<'a, M: Metric> Rules<'a, M> {
             let offers = self.existing(s, x, &around, y, ys, place);
             let ends = [around.to_after - across, around.to_before - across];
             let gaining = metric.gaining(&fan, ends, freed.map(|f| f - across), to_ys, ys) & offers;
+            let gaining = if R::IS_FREE { gaining } else { self.allowed(s, x, &around, y, ys, gaining) };
             if gaining == 0 {
                 *tests += offers.count_ones() as u64;
                 continue;
@@ -216,7 +240,15 @@ impl<'a, M: Metric> Rules<'a, M> {
         None
     }
 
-    /// The first offer of x with positive gain, and the gain: offers are tested one after another, until one gains.
+    /// The bits of these offers from the first one on that may be made.
+    fn allowed(&self, s: &Store, x: u32, around: &Around<M::Length>, y: u32, ys: [u32; 2], mut offers: u32) -> u32 {
+        while offers != 0 && !self.rule.allows(s, around.offer(x, y, ys, offers.trailing_zeros())) {
+            offers &= offers - 1;
+        }
+        offers
+    }
+
+    /// The first offer of x with positive gain that may be made, and the gain: offers are tested one after another, until one gains.
     #[inline(always)]
     fn look_in_order(&self, s: &Store, tests: &mut u64, x: u32) -> Option<(Offer, i64)> {
         let metric = self.metric;
@@ -234,8 +266,10 @@ impl<'a, M: Metric> Rules<'a, M> {
                 *tests += 1;
                 let margin = froms[side] + to_ys[side] - across;
                 if metric.is_nearer(lasts[1 + side], ys[side], margin) {
-                    let gain = margin - metric.dist(lasts[1 + side], ys[side]);
-                    return Some((around.offer(x, y, ys, side as u32), gain.whole()));
+                    let offer = around.offer(x, y, ys, side as u32);
+                    if self.rule.allows(s, offer) {
+                        return Some((offer, (margin - metric.dist(lasts[1 + side], ys[side])).whole()));
+                    }
                 }
             }
             for (k, segment) in segments[..count].iter().enumerate() {
@@ -246,8 +280,10 @@ impl<'a, M: Metric> Rules<'a, M> {
                     *tests += 1;
                     let margin = freed[k] - across + to_ys[side];
                     if metric.is_nearer(lasts[k], ys[side], margin) {
-                        let gain = margin - metric.dist(lasts[k], ys[side]);
-                        return Some((around.offer(x, y, ys, (2 * k + side + 2) as u32), gain.whole()));
+                        let offer = around.offer(x, y, ys, (2 * k + side + 2) as u32);
+                        if self.rule.allows(s, offer) {
+                            return Some((offer, (margin - metric.dist(lasts[k], ys[side])).whole()));
+                        }
                     }
                 }
             }
@@ -261,7 +297,7 @@ impl<'a, M: Metric> Rules<'a, M> {
         while let Some(x) = waking.take() {
             let found = if self.in_order { self.look_in_order(s, &mut counts.tests, x) } else { self.look(s, &mut counts.tests, x) };
             if let Some((offer, gain)) = found {
-                s.make(offer);
+                counts.flips += s.make(offer);
                 match offer {
                     Offer::Two(a, b, c, d) => [a, b, c, d].iter().for_each(|c| waking.wake(*c)),
                     Offer::Or(a, x, e, b, y, w) => [x, a, e, b, y, w].iter().for_each(|c| waking.wake(*c)),
@@ -282,6 +318,7 @@ impl<'a, M: Metric> Rules<'a, M> {
             sum.moves += pass.moves;
             sum.tests += pass.tests;
             sum.gained += pass.gained;
+            sum.flips += pass.flips;
             if pass.moves == 0 {
                 return sum;
             }

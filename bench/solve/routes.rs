@@ -1,6 +1,6 @@
 //! The savings algorithm (G. Clarke and J. W. Wright, 1964), and the improvement of each route on its own.
 
-use crate::descent::{Counts, Rules, Waking};
+use crate::descent::{Counts, Free, Rules, Waking};
 use crate::metric::{Metric, Number};
 use crate::near::{Near, Neighbour, near_lists};
 use crate::text::Routing;
@@ -118,8 +118,10 @@ pub fn solve<M: Metric>(metric: &M, routing: &Routing, max_candidates: usize, m:
         let mut tour = Store::new(&places);
         let mut waking = Waking::new(cities.len());
         waking.wake_all(&places);
-        let one = Rules::new(&alone, &near, m, &places, false).descend(&mut tour, &mut waking);
-        counts = Counts { moves: counts.moves + one.moves, tests: counts.tests + one.tests, gained: counts.gained + one.gained };
+        let one = Rules::new(Free, &alone, &near, m, &places, false).descend(&mut tour, &mut waking);
+        counts.moves += one.moves;
+        counts.tests += one.tests;
+        counts.gained += one.gained;
         swaps += tour.swaps;
         *route = Tour::printed(&tour.cities())[1..].iter().map(|k| cities[*k as usize]).collect();
         if route[0] > route[route.len() - 1] {

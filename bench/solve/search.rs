@@ -1,6 +1,6 @@
 //! Trials: descents from kicks of the best tour (O. Martin, S. W. Otto and E. W. Felten, 1991).
 
-use crate::descent::{Rules, Waking};
+use crate::descent::{Free, Rules, Waking};
 use crate::metric::{Metric, Number};
 use crate::near::Near;
 use crate::params::Params;
@@ -42,7 +42,7 @@ impl Pcg32 {
     }
 
     /// Canon's method: a second word decides where the first may be too low.
-    fn random_range(&mut self, range: RangeInclusive<u32>) -> u32 {
+    pub fn random_range(&mut self, range: RangeInclusive<u32>) -> u32 {
         let count = range.end() - range.start() + 1;
         let product = self.next() as u64 * count as u64;
         let (mut high, low) = ((product >> 32) as u32, product as u32);
@@ -73,7 +73,7 @@ impl fmt::Display for Totals {
 
 struct Search<'a, M> {
     metric: &'a M,
-    rules: Rules<'a, M>,
+    rules: Rules<'a, M, Free>,
     sweep: bool,
     tour: Store,
     waking: Waking,
@@ -137,7 +137,7 @@ pub fn search<M: Metric>(
     let start: Vec<u32> = start.iter().map(|c| places[*c as usize]).collect();
     let mut search = Search {
         metric,
-        rules: Rules::new(metric, near, params.or_segment, &places, params.same_method),
+        rules: Rules::new(Free, metric, near, params.or_segment, &places, params.same_method),
         sweep: params.sweep,
         tour: Store::new(&start),
         waking: Waking::new(start.len()),

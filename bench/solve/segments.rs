@@ -477,6 +477,11 @@ impl Tour {
         self.view.segs.extend_from_slice(&joined);
     }
 
+    /// Takes the order of another tour of the same cities, which is settled then.
+    pub fn take_order(&mut self, order: &[u32]) {
+        *self = Tour { swaps: self.swaps, by_flips: self.by_flips, ..Tour::new(order) };
+    }
+
     pub fn rewind(&mut self) {
         if let Some(copy) = self.copy.take() {
             self.order = copy;

@@ -18,27 +18,31 @@ pub trait Moves {
     /// Does what three flips do, where it may and where these only shift the segment from x to e; else it does nothing.
     fn shift_past(&mut self, x: u32, e: u32, b: u32, c: u32, d: u32, ahead: bool) -> bool;
 
-    /// Makes the move of an offer.
-    fn make(&mut self, offer: Offer) {
+    /// Makes the move of an offer, and returns the number of flips that it consists of.
+    fn make(&mut self, offer: Offer) -> u64 {
         match offer {
-            Offer::Two(a, b, c, d) => self.replace(a, b, c, d),
+            Offer::Two(a, b, c, d) => {
+                self.replace(a, b, c, d);
+                1
+            }
             Offer::Or(a, x, e, b, y, w) if self.after(a) == x => self.move_forward(a, x, e, b, y, w),
             Offer::Or(a, x, e, b, y, w) => self.move_forward(b, e, x, a, w, y),
         }
     }
 
     /// Moves a segment that runs forward from x to e.
-    fn move_forward(&mut self, a: u32, x: u32, e: u32, b: u32, y: u32, w: u32) {
+    fn move_forward(&mut self, a: u32, x: u32, e: u32, b: u32, y: u32, w: u32) -> u64 {
         let ahead = self.after(y) == w;
         let (c, d) = if ahead { (y, w) } else { (w, y) };
-        if self.shift_past(x, e, b, c, d, ahead) {
-            return;
+        let turned = ahead && x != e;
+        if !self.shift_past(x, e, b, c, d, ahead) {
+            self.replace(a, x, c, d);
+            self.replace(a, c, b, e);
+            if turned {
+                self.replace(c, e, x, d);
+            }
         }
-        self.replace(a, x, c, d);
-        self.replace(a, c, b, e);
-        if ahead && x != e {
-            self.replace(c, e, x, d);
-        }
+        2 + turned as u64
     }
 }
 

@@ -1,6 +1,10 @@
 //! `tourkit solve` in plain Rust: the same files, the same search, the same bytes.
 //!
 //! usage: twin solve PAR [--times] [--as-given] [--whole] [--same-method]
+//!        twin solve CVRP OPTION.. [--times] [--whole] [--same-method]
+//!
+//! With options of `tourkit solve` (-o, --runs, --trials, --seed, --candidates, --or-segment, --final-sweep), it searches between the routes
+//! of a CVRP. Its own options are these:
 //!
 //! - --times prints a line on standard error with the time of each part.
 //! - --as-given numbers the cities as in the problem, not by their positions in the starting tour.
@@ -11,6 +15,8 @@
 //!
 //! Compiled with `--cfg segments`, the search divides its tour into segments; otherwise it keeps the tour in an array.
 
+mod between;
+mod capacity;
 mod descent;
 mod metric;
 mod near;
@@ -170,8 +176,12 @@ fn solve_routes<M: Metric>(metric: &M, routing: &Routing, params: &Params, times
         counts.tests,
         r.swaps
     );
+    (out, solution_text(routing, &r.routes, cost))
+}
+
+fn solution_text(routing: &Routing, routes: &[Vec<u32>], cost: i64) -> Vec<u8> {
     let mut file = vec![];
-    for (k, route) in r.routes.iter().enumerate() {
+    for (k, route) in routes.iter().enumerate() {
         write!(file, "Route #{}:", k + 1).unwrap();
         for node in route {
             write!(file, " {}", node + (*node < routing.depot) as u32).unwrap();
@@ -179,7 +189,23 @@ fn solve_routes<M: Metric>(metric: &M, routing: &Routing, params: &Params, times
         file.push(b'\n');
     }
     writeln!(file, "Cost {cost}").unwrap();
-    (out, file)
+    file
+}
+
+fn solve_between<M: Metric>(metric: &M, routing: &Routing, params: &Params, times: &mut Times) -> (String, Vec<u8>) {
+    let (start, candidates) = between::ladder(metric, routing);
+    times.end("start");
+    let runs = between::runs(metric, routing, params, &start);
+    times.end("search");
+    let mut out = format!("savings {}, routes {}, candidates {candidates}\n", start.cost, start.routes.len());
+    for (j, run) in runs.iter().enumerate() {
+        let (found, count) = (&run.found, run.found.routes.len());
+        write!(out, "run {}: start {}, best {}, routes {count}, ", j + 1, run.start, found.cost).unwrap();
+        writeln!(out, "trials {}, moves {}, tests {}, swaps {}", run.trials, run.moves, run.tests, run.swaps).unwrap();
+    }
+    let best = [&start].into_iter().chain(runs.iter().map(|run| &run.found)).min_by_key(|found| found.cost).unwrap();
+    writeln!(out, "best {}, routes {}", best.cost, best.routes.len()).unwrap();
+    (out, solution_text(routing, &best.routes, best.cost))
 }
 
 fn main() {
@@ -190,10 +216,11 @@ fn main() {
             let same = has("--same-method");
             (file, Flags { times: has("--times"), as_given: same || has("--as-given"), whole: same || has("--whole"), same_method: same })
         }
-        _ => fail(2, "usage: twin solve PAR [--times] [--as-given] [--whole] [--same-method]".to_string()),
+        _ => fail(2, "usage: twin solve PAR|CVRP [OPTIONS]".to_string()),
     };
     let mut times = Times { begin: Instant::now(), parts: vec![] };
-    let read = accepted(parameter_file, params::read_params(&text_of(parameter_file)));
+    let options = params::read_options(parameter_file, &words[2..]).unwrap_or_else(|what| fail(2, what));
+    let read = options.unwrap_or_else(|| accepted(parameter_file, params::read_params(&text_of(parameter_file))));
     let params = Params { same_method: flags.same_method, ..read };
     let name = &params.problem_file;
     let Problem { name: title, n, weights, routing } = accepted(name, text::read_problem(&text_of(name)));
@@ -209,6 +236,7 @@ fn main() {
     times.end("read");
     let (lines, file) = with_metric!(weights, n, flags.whole, metric => match &routing {
         None => solve_tour(&metric, &title, given, &params, &flags, &mut times),
+        Some(routing) if params.between => solve_between(&metric, routing, &params, &mut times),
         Some(routing) => solve_routes(&metric, routing, &params, &mut times),
     });
     let ignored: String = params.ignored.iter().map(|key| format!("ignored {key}\n")).collect();

@@ -11,8 +11,6 @@ from typing import Dict, List, Tuple
 
 import tourkit
 
-CANDIDATES = 20
-
 Place = Dict[str, str]
 
 
@@ -27,7 +25,7 @@ def plan(places: List[Place], capacity: int, name: str) -> Tuple[tourkit.CVRP, t
     points = [(place["x"], place["y"]) for place in places]
     demands = [int(place["demand"] or 0) for place in places]
     problem = tourkit.Problem.from_points(points, name=name, demands=demands, capacity=capacity)
-    return problem, tourkit.solve(problem, candidates=CANDIDATES)
+    return problem, tourkit.solve(problem)
 
 
 def print_routes(places: List[Place], routes: tourkit.Routes) -> None:

@@ -22,11 +22,12 @@ _tourkit_options() {
         check) _tourkit_words "--json -h --help" ;;
         checksol) _tourkit_words "--json -h --help" ;;
         explain) _tourkit_words "-h --help" ;;
-        matrix) _tourkit_words "-h --help" ;;
-        near) _tourkit_words "-k -h --help" ;;
+        info) _tourkit_words "--json -h --help" ;;
+        matrix) _tourkit_words "--json -h --help" ;;
+        near) _tourkit_words "-k --json -h --help" ;;
         plot) _tourkit_words "--html -h --help" ;;
         solve) _tourkit_words "-o --output --trials --candidates --runs --seed --or-segment --construction
-            --final-sweep --initial-tour --progress --json -h --help" ;;
+            --final-sweep --initial-tour --initial-solution --vehicles --within-routes --progress --json -h --help" ;;
     esac
 }
 
@@ -54,7 +55,7 @@ _tourkit_arguments() {
 
 _tourkit() {
     local word=${COMP_WORDS[COMP_CWORD]} before=${COMP_WORDS[COMP_CWORD - 1]}
-    local commands="check checksol explain matrix near plot solve help"
+    local commands="check checksol explain info matrix near plot solve help"
     COMPREPLY=()
     # Bash splits --option=value into three words.
     if [ "$word" = "=" ]; then
@@ -65,10 +66,10 @@ _tourkit() {
     case $COMP_CWORD:$before:$word in
         1:*) _tourkit_words "$commands --completions -h --help -V --version" ;;
         *:--completions:*) _tourkit_words "bash zsh fish" ;;
-        *:-k:* | *:--trials:* | *:--candidates:* | *:--runs:* | *:--seed:*) ;;
+        *:-k:* | *:--trials:* | *:--candidates:* | *:--runs:* | *:--seed:* | *:--vehicles:*) ;;
         *:--or-segment:*) _tourkit_words "1 2 3" ;;
         *:--construction:*) _tourkit_words "nearest savings" ;;
-        *:-o:* | *:--output:* | *:--initial-tour:* | *:*[\<\>]:*) _tourkit_files ;;
+        *:-o:* | *:--output:* | *:--initial-tour:* | *:--initial-solution:* | *:*[\<\>]:*) _tourkit_files ;;
         *:*:-*) _tourkit_options ;;
         *) _tourkit_arguments ;;
     esac

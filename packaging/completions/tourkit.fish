@@ -6,6 +6,7 @@ complete -c tourkit -n __fish_use_subcommand -l completions -x -a 'bash zsh fish
 complete -c tourkit -n __fish_use_subcommand -f -a check -d 'Checks a tour and prints its length'
 complete -c tourkit -n __fish_use_subcommand -f -a checksol -d 'Checks the routes of a CVRP and their cost'
 complete -c tourkit -n __fish_use_subcommand -f -a explain -d 'Explains a fault, or what is wrong with a file'
+complete -c tourkit -n __fish_use_subcommand -f -a info -d 'Prints what is known of a problem'
 complete -c tourkit -n __fish_use_subcommand -f -a matrix -d 'Prints a problem as a TSP with explicit weights'
 complete -c tourkit -n __fish_use_subcommand -f -a near -d 'Prints the nearest neighbours of each city'
 complete -c tourkit -n __fish_use_subcommand -f -a plot -d 'Draws a problem, and a tour or routes of it, as SVG or HTML'
@@ -22,10 +23,14 @@ complete -c tourkit -n '__fish_seen_subcommand_from explain; and __fish_is_nth_t
         WrongCount OutOfRange RepeatedCity BadCustomer ServedTwice OverCapacity NotServed WrongCost'
 complete -c tourkit -n '__fish_seen_subcommand_from explain; and __fish_is_nth_token 3' -f
 
+complete -c tourkit -n '__fish_seen_subcommand_from info' -l json -d 'print one JSON object instead of text'
+
 complete -c tourkit -n '__fish_seen_subcommand_from matrix; and __fish_is_nth_token 3' -f \
     -a 'FULL_MATRIX UPPER_ROW LOWER_ROW UPPER_DIAG_ROW LOWER_DIAG_ROW UPPER_COL LOWER_COL UPPER_DIAG_COL LOWER_DIAG_COL'
+complete -c tourkit -n '__fish_seen_subcommand_from matrix' -l json -d 'print one JSON object instead of text'
 
 complete -c tourkit -n '__fish_seen_subcommand_from near' -s k -x -d 'length of each list, 1 to 100'
+complete -c tourkit -n '__fish_seen_subcommand_from near' -l json -d 'print one JSON object instead of text'
 
 complete -c tourkit -n '__fish_seen_subcommand_from plot' -l html -d 'print an HTML page instead of an SVG picture'
 
@@ -39,13 +44,19 @@ complete -c tourkit -n '__fish_seen_subcommand_from solve' -l seed -x -d 'seed o
 complete -c tourkit -n '__fish_seen_subcommand_from solve' -l or-segment -x -a '1 2 3' \
     -d 'longest segment that an Or-opt move moves, 1 to 3'
 complete -c tourkit -n '__fish_seen_subcommand_from solve' -l construction -x -a 'nearest savings' \
-    -d 'how to construct the starting tours'
+    -d 'how to construct the starting tours (TSP only)'
 complete -c tourkit -n '__fish_seen_subcommand_from solve' -l final-sweep \
     -d 'continue each trial until no city has an improving move'
 complete -c tourkit -n '__fish_seen_subcommand_from solve' -l initial-tour -r -F \
     -d 'start every run from this tour, or - for standard input (TSP only)'
+complete -c tourkit -n '__fish_seen_subcommand_from solve' -l initial-solution -r -F \
+    -d 'start every run from these routes, or - for standard input (CVRP only)'
+complete -c tourkit -n '__fish_seen_subcommand_from solve' -l vehicles -x \
+    -d 'exit with status 1 if the best solution has more routes than N (CVRP only)'
+complete -c tourkit -n '__fish_seen_subcommand_from solve' -l within-routes \
+    -d 'move no customers between routes, as with PARAMETERS (CVRP only)'
 complete -c tourkit -n '__fish_seen_subcommand_from solve' -l progress \
     -d 'write each run\'s line to standard error when the run ends'
 complete -c tourkit -n '__fish_seen_subcommand_from solve' -l json -d 'print one JSON object instead of text'
 
-complete -c tourkit -n '__fish_seen_subcommand_from help' -f -a 'check checksol explain matrix near plot solve help'
+complete -c tourkit -n '__fish_seen_subcommand_from help' -f -a 'check checksol explain info matrix near plot solve help'

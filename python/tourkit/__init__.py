@@ -17,7 +17,7 @@ from ._pictures import Picture, plot
 from ._problem import CVRP, TSP, Problem
 from ._reading import read_solution, read_tour
 from ._refused import Refused
-from ._results import Routes, Run, Tour
+from ._results import RouteRun, Routes, RouteStart, Run, Tour
 from ._solve import Interrupted, solve
 from ._verdicts import RouteVerdict, TourVerdict
 
@@ -29,6 +29,8 @@ __all__ = [
     "Picture",
     "Problem",
     "Refused",
+    "RouteRun",
+    "RouteStart",
     "RouteVerdict",
     "Routes",
     "Run",

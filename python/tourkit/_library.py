@@ -25,9 +25,24 @@ class Answer(ctypes.Structure):
     ]
 
 
+class RouteOptions(ctypes.Structure):
+    """The options of a search between routes: `tourkit_route_options` of the header."""
+
+    _fields_ = [
+        ("runs", ctypes.c_uint32),
+        ("trials", ctypes.c_uint32),
+        ("seed", ctypes.c_uint32),
+        ("candidates", ctypes.c_uint32),
+        ("or_segment", ctypes.c_uint32),
+        ("final_sweep", ctypes.c_bool),
+        ("from_solution", ctypes.c_bool),
+    ]
+
+
 SLICE = (ctypes.c_void_p, ctypes.c_size_t)
 NUMBER = (ctypes.c_uint32,)
 FLAG = (ctypes.c_bool,)
+STRUCT = (ctypes.c_void_p,)
 
 # The parameters of each function before its answer.
 CALLS = {
@@ -36,6 +51,7 @@ CALLS = {
     "tourkit_near": SLICE + NUMBER + SLICE,
     "tourkit_matrix": 2 * SLICE,
     "tourkit_solve": 5 * SLICE,
+    "tourkit_solve_routes": 2 * SLICE + STRUCT + 2 * SLICE,
     "tourkit_plot": 2 * SLICE + FLAG + 2 * SLICE,
     "tourkit_distances": 2 * SLICE,
     "tourkit_check_cities": 2 * SLICE,

@@ -14,6 +14,9 @@ MISFITS = {16: "WrongType", 17: "NotForType", 18: "TooLarge", 19: "NoPlaces"}
 # The faults of an initial tour, by their numbers in `tourkit.h`, with their numbers in messages.
 CLASHES = {20: (1, "WrongCount"), 21: (2, "OutOfRange"), 22: (3, "RepeatedCity")}
 
+# The faults of the routes of an initial solution, by their numbers in `tourkit.h`.
+ROUTE_FAULTS = {23: "BadCustomer", 24: "ServedTwice", 25: "OverCapacity", 26: "NotServed", 27: "WrongCost"}
+
 
 class Refused(ValueError):
     """Reports that a text has a fault, or that a function does not apply to a problem. It prints as the program reports it:
@@ -55,6 +58,8 @@ def refused(answer: Answer, message: bytes, texts: Sequence[Text]) -> Refused:
         number, name = CLASHES[answer.kind]
         place = f" {answer.place}" if answer.place else ""
         return Refused(f"{text.where}: initial tour: {number} {name}{place}", number, name, None, text.file)
+    if answer.kind in ROUTE_FAULTS and told:
+        return Refused(f"{text.where}: {told}", None, ROUTE_FAULTS[answer.kind], None, text.file)
     fault = re.search(rf"\b{answer.line}: ({answer.kind} (\w+).*)$", told)
     if not fault:
         raise MemoryError("tourkit: out of memory")

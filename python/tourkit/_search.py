@@ -2,14 +2,16 @@
 
 from __future__ import annotations
 
+import ctypes
 import dataclasses
 from functools import partial
 from typing import Any, Dict, Optional, Tuple, Union
 
 from ._claims import tour_text
+from ._library import RouteOptions
 from ._nearest import NearestTours, TooSlow
 from ._problem import Problem
-from ._results import Routes, Run, Tour, result_of
+from ._results import Routes, RouteStart, Tour, result_of
 from ._text import Text
 from ._threads import Pool
 from ._writing import write_texts
@@ -31,6 +33,9 @@ LONG = 50_000
 # If there are fewer trials than a quarter of the cities, a run may take less time than its preparation.
 FEW = 4
 
+# The number of trials of a search between routes for each node, unless the caller specifies the number of trials.
+TRIALS_PER_NODE = 10
+
 # The maximum number of runs for each thread that are in progress or ready to start.
 AHEAD = 2
 
@@ -43,15 +48,85 @@ def search(parameters: Text, problem: Text, start: Text, runs: int) -> Tuple[byt
     return lines, text
 
 
-class Search:
-    """The searches of a call of `solve`: one for each piece, with the keys of a parameter file apart from RUNS and SEED."""
+def search_routes(problem: Text, start: Text, options: RouteOptions) -> Tuple[bytes, bytes]:
+    """Makes the search between routes that the options specify. Returns the lines that the program prints, and the text of the routes."""
+    words = [*problem.words, *start.words, ctypes.byref(options)]
+    _, (lines, text) = write_texts("tourkit_solve_routes", [problem, start], words, [LINES + LINE * options.runs, TEXT])
+    return lines, text
 
-    def __init__(self, problem: Problem, keys: Dict[str, Any], runs: int, jobs: int) -> None:
-        self._problem, self._keys, self._runs, self._jobs = problem, keys, runs, jobs
+
+class ByParameters:
+    """Searches with the keys of a parameter file apart from RUNS and SEED: for a tour, or for routes that are improved each by itself."""
+
+    def __init__(self, problem: Problem, keys: Dict[str, Any]) -> None:
+        self._problem, self._keys = problem, keys
         self._nearest: Optional[NearestTours] = None
+
+    def can_split(self, runs: int, jobs: int, start: Optional[Text]) -> bool:
+        """Whether each run can be made by itself, and whether this is worthwhile."""
+        if self._problem.kind == "cvrp":
+            return False
+        size = self._problem.size
+        trials: int = self._keys.get("MAX_TRIALS", size)
+        if jobs == 1 and trials * runs < LONG:
+            return False
+        return FEW * trials >= size or (jobs > 1 and not self._needs_tours(start))
+
+    def _needs_tours(self, start: Optional[Text]) -> bool:
+        """Whether each run starts from a nearest-neighbour tour of its own."""
+        construction: str = self._keys["CONSTRUCTION"]
+        return start is None and construction == "NEAREST"
+
+    def start_of(self, run: int, start: Optional[Text]) -> Optional[Text]:
+        """The initial tour of a run; `None` if the library constructs it. Run j starts from the nearest-neighbour tour of city j, and after
+        the last city, from that of city 1 again."""
+        before = (run - 1) % self._problem.size
+        if before == 0 or not self._needs_tours(start):
+            return start
+        self._nearest = self._nearest or NearestTours(self._problem)
+        return Text(tour_text(self._nearest.tour(before + 1), "initial_tour"), "tour")
+
+    def found(self, runs: int, seed: int, start: Optional[Text]) -> Found:
+        """The result of some runs, by one call of the library. The parameters must contain file names, but the library ignores them."""
+        names = {"PROBLEM_FILE": "-"} if start is None else {"PROBLEM_FILE": "-", "INITIAL_TOUR_FILE": "-"}
+        lines = (f"{key} = {value}\n" for key, value in {**names, **self._keys, "RUNS": runs, "SEED": seed}.items())
+        parameters = Text("".join(lines).encode(), "parameters")
+        told, text = search(parameters, self._problem._source, start or Text(b"", "tour"), runs)
+        return result_of(told, text, self._problem)
+
+
+class BetweenRoutes:
+    """Searches between the routes of a CVRP, with these options apart from `runs`, `seed` and `from_solution`."""
+
+    def __init__(self, problem: Problem, options: Dict[str, Any]) -> None:
+        self._problem, self._options = problem, options
+
+    def can_split(self, runs: int, jobs: int, start: Optional[Text]) -> bool:
+        """Whether each run can be made by itself, and whether this is worthwhile. With one customer, there are no runs."""
+        size = self._problem.size
+        trials: int = self._options["trials"] or TRIALS_PER_NODE * size
+        return size > 2 and (jobs > 1 or trials * runs >= LONG)
+
+    def start_of(self, run: int, start: Optional[Text]) -> Optional[Text]:
+        """The initial solution of a run; `None` if the library makes savings routes. All runs begin with the same routes."""
+        return start
+
+    def found(self, runs: int, seed: int, start: Optional[Text]) -> Found:
+        """The result of some runs, by one call of the library."""
+        options = RouteOptions(runs=runs, seed=seed, from_solution=start is not None, **self._options)
+        told, text = search_routes(self._problem._source, start or Text(b"", "solution"), options)
+        return result_of(told, text, self._problem)
+
+
+class Search:
+    """The searches of a call of `solve`: one for each piece."""
+
+    def __init__(self, how: Union[ByParameters, BetweenRoutes], runs: int, jobs: int) -> None:
+        self._how, self._runs, self._jobs = how, runs, jobs
         self._pool = Pool[Result](jobs)
-        self._before: Tuple[Run, ...] = ()
-        self._found: Dict[int, Run] = {}
+        self._before: Tuple[Any, ...] = ()
+        self._began: Optional[RouteStart] = None
+        self._found: Dict[int, Any] = {}
         self._best: Tuple[int, Optional[Found]] = (0, None)
 
     def __enter__(self) -> Search:
@@ -62,19 +137,23 @@ class Search:
 
     @property
     def best(self) -> Optional[Found]:
-        """The best tour of the runs that have been made, or the routes; `None` if there is none yet."""
+        """The best tour of the runs that have been made, or the best routes; `None` if there are none yet."""
         best = self._best[1]
-        if not isinstance(best, Tour):
-            return best
+        if best is None:
+            return None
         found = [dataclasses.replace(run, run=len(self._before) + number) for number, run in sorted(self._found.items())]
-        return dataclasses.replace(best, runs=(*self._before, *found))
+        runs = (*self._before, *found)
+        if isinstance(best, Tour):
+            return dataclasses.replace(best, runs=runs)
+        return dataclasses.replace(best, runs=runs, start=self._began or best.start)
 
     def make(self, seed: int, start: Optional[Text]) -> Found:
         """Makes the runs with the seeds from this one on. Returns the best of them, with the runs made before."""
         best = self.best
-        self._before, self._found = best.runs if isinstance(best, Tour) else (), {}
+        self._before, self._found = best.runs if best else (), {}
+        self._began = best.start if isinstance(best, Routes) else None
         try:
-            if self._can_split(seed, start):
+            if self._runs > 1 and seed + self._runs <= SEEDS and self._how.can_split(self._runs, self._jobs, start):
                 self._make_each(seed, start)
             else:
                 self._make_all(seed, start)
@@ -91,46 +170,20 @@ class Search:
         """Makes all runs by one call of the library."""
         self._pool.start(partial(self._searched, 1, self._runs, seed, start))
         _, found = self._pool.result()
-        if isinstance(found, Tour):
-            self._found = dict(enumerate(found.runs, 1))
+        self._found = dict(enumerate(found.runs, 1))
         self._best = (1, found)
 
-    def _can_split(self, seed: int, start: Optional[Text]) -> bool:
-        """Whether each run can be made by itself, and whether this is worthwhile."""
-        if self._runs == 1 or seed + self._runs > SEEDS or self._problem.kind == "cvrp":
-            return False
-        size = self._problem.size
-        trials: int = self._keys.get("MAX_TRIALS", size)
-        if self._jobs == 1 and trials * self._runs < LONG:
-            return False
-        return FEW * trials >= size or (self._jobs > 1 and not self._needs_tours(start))
-
-    def _needs_tours(self, start: Optional[Text]) -> bool:
-        """Whether each run starts from a nearest-neighbour tour of its own."""
-        construction: str = self._keys["CONSTRUCTION"]
-        return start is None and construction == "NEAREST"
-
     def _make_each(self, seed: int, start: Optional[Text]) -> None:
-        """Makes each run by itself, in threads. The result is that of one search: the tour of the first run with the minimum length."""
+        """Makes each run by itself, in threads. The result is that of one search: the best of the first run with the minimum length."""
         for run in range(1, self._runs + 1):
             if run - len(self._found) > AHEAD * self._jobs:
                 self._take(*self._pool.result())
-            self._pool.start(partial(self._searched, run, 1, seed + run - 1, self._start_of(run, start)))
+            self._pool.start(partial(self._searched, run, 1, seed + run - 1, self._how.start_of(run, start)))
         while len(self._found) < self._runs:
             self._take(*self._pool.result())
 
-    def _start_of(self, run: int, start: Optional[Text]) -> Optional[Text]:
-        """The initial tour of a run; `None` if the library constructs it. Run j starts from the nearest-neighbour tour of city j, and after
-        the last city, from that of city 1 again."""
-        before = (run - 1) % self._problem.size
-        if before == 0 or not self._needs_tours(start):
-            return start
-        self._nearest = self._nearest or NearestTours(self._problem)
-        return Text(tour_text(self._nearest.tour(before + 1), "initial_tour"), "tour")
-
     def _take(self, run: int, found: Found) -> None:
         """Adds the result of a run."""
-        assert isinstance(found, Tour)
         number, best = self._best
         is_first = not self._found or best is None
         self._found[run] = found.runs[0]
@@ -138,10 +191,5 @@ class Search:
             self._best = (run, found)
 
     def _searched(self, run: int, runs: int, seed: int, start: Optional[Text]) -> Result:
-        """Makes some runs by one call of the library. Returns the number of the first one and the result. The parameters must contain file
-        names, but the library ignores them."""
-        names = {"PROBLEM_FILE": "-"} if start is None else {"PROBLEM_FILE": "-", "INITIAL_TOUR_FILE": "-"}
-        lines = (f"{key} = {value}\n" for key, value in {**names, **self._keys, "RUNS": runs, "SEED": seed}.items())
-        parameters = Text("".join(lines).encode(), "parameters")
-        told, text = search(parameters, self._problem._source, start or Text(b"", "tour"), runs)
-        return run, result_of(told, text, self._problem)
+        """Makes some runs by one call of the library. Returns the number of the first one and the result."""
+        return run, self._how.found(runs, seed, start)

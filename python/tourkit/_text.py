@@ -20,6 +20,7 @@ ACCEPTED = {
     "tour": f"{FILE_OR_TEXT}, a Tour or a list of cities",
     "initial_tour": f"{FILE_OR_TEXT}, a Tour or a list of cities",
     "solution": f"{FILE_OR_TEXT}, Routes or a list of routes",
+    "initial_solution": f"{FILE_OR_TEXT}, Routes or a list of routes",
     "claim": f"{FILE_OR_TEXT}, a Tour, Routes, a list of cities or a list of routes",
 }
 

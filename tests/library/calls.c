@@ -66,11 +66,12 @@ static text read_text(const char *folder, const char *name) {
 /* An answer has no padding, so its bytes can be compared. */
 _Static_assert(sizeof(tourkit_answer) == 4 * sizeof(uint32_t) + 2 * sizeof(uint64_t) + 2 * sizeof(size_t), "padding");
 
-enum { CALLS = 17, TEXTS = 9, THREADS = 8, ROOM = 1 << 18, UNTOUCHED = 0x77 };
+enum { CALLS = 20, TEXTS = 12, THREADS = 8, ROOM = 1 << 18, UNTOUCHED = 0x77 };
 
 static text tsp, tour, vrp, sol, par, listed, par_vrp;
 static const int64_t xs[4] = {0, 3000000000, 3000000000, 500000000}, ys[4] = {0, 0, 4000000000, 4000000000};
 static const uint32_t cities[4] = {1, 2, 3, 4}, weights[6] = {3, 5, 4, 6, 7, 2};
+static const tourkit_route_options from_savings = {2, 20, 1, 12, 3, true, false}, from_plan = {1, 20, 1, 5, 2, false, true};
 
 /* The two buffers of a call, their sizes in bytes, and its answer. */
 typedef struct {
@@ -82,8 +83,8 @@ typedef struct {
 /* The size of an entry that a call writes to its first buffer: 1 byte in a text, and 0 if it writes nothing. */
 static size_t unit_of(int which) {
     if (which < TEXTS) return 1;
-    if (which == 9) return sizeof(int64_t);
-    return which == 10 || which == 12 || which == 14 ? sizeof(uint32_t) : 0;
+    if (which == 12) return sizeof(int64_t);
+    return which == 13 || which == 15 || which == 17 ? sizeof(uint32_t) : 0;
 }
 
 /* Makes a call. The first TEXTS calls write texts. */
@@ -102,14 +103,17 @@ static void call(int which, result *r) {
     case 6: tourkit_solve(par_vrp.bytes, par_vrp.size, vrp.bytes, vrp.size, vrp.bytes, 0, o, room, f, file_room, a); break;
     case 7: tourkit_solve(par.bytes, par.size, tsp.bytes, tsp.size, listed.bytes, listed.size, o, room, f, file_room, a); break;
     case 8: tourkit_check(tour.bytes, tour.size, listed.bytes, listed.size, o, room, a); break; /* refused */
-    case 9: tourkit_distances(vrp.bytes, vrp.size, (int64_t *)(void *)o, room / 8, a); break;
-    case 10: tourkit_near_cities(tsp.bytes, tsp.size, 3, (uint32_t *)(void *)o, room / 4, a); break;
-    case 11: tourkit_check_cities(tsp.bytes, tsp.size, cities, 4, a); break;
-    case 12: tourkit_near_points(TOURKIT_EUC_2D, xs, 4, ys, 4, 2, (uint32_t *)(void *)o, room / 4, a); break;
-    case 13: tourkit_check_points(TOURKIT_MAN_2D, xs, 4, ys, 4, cities, 4, a); break;
-    case 14: tourkit_near_weights(4, weights, 6, 2, (uint32_t *)(void *)o, room / 4, a); break;
-    case 15: tourkit_check_weights(4, weights, 6, cities, 4, a); break;
-    case 16: tourkit_near_weights(5, weights, 6, 2, (uint32_t *)(void *)o, room / 4, a); break; /* refused */
+    case 9: tourkit_solve_routes(vrp.bytes, vrp.size, vrp.bytes, 0, &from_savings, o, room, f, file_room, a); break;
+    case 10: tourkit_solve_routes(vrp.bytes, vrp.size, sol.bytes, sol.size, &from_plan, o, room, f, file_room, a); break;
+    case 11: tourkit_solve_routes(vrp.bytes, vrp.size, tour.bytes, tour.size, &from_plan, o, room, f, file_room, a); break; /* refused */
+    case 12: tourkit_distances(vrp.bytes, vrp.size, (int64_t *)(void *)o, room / 8, a); break;
+    case 13: tourkit_near_cities(tsp.bytes, tsp.size, 3, (uint32_t *)(void *)o, room / 4, a); break;
+    case 14: tourkit_check_cities(tsp.bytes, tsp.size, cities, 4, a); break;
+    case 15: tourkit_near_points(TOURKIT_EUC_2D, xs, 4, ys, 4, 2, (uint32_t *)(void *)o, room / 4, a); break;
+    case 16: tourkit_check_points(TOURKIT_MAN_2D, xs, 4, ys, 4, cities, 4, a); break;
+    case 17: tourkit_near_weights(4, weights, 6, 2, (uint32_t *)(void *)o, room / 4, a); break;
+    case 18: tourkit_check_weights(4, weights, 6, cities, 4, a); break;
+    case 19: tourkit_near_weights(5, weights, 6, 2, (uint32_t *)(void *)o, room / 4, a); break; /* refused */
     }
 }
 
@@ -232,7 +236,8 @@ int main(int count, char **words) {
             w->room = w->answer.needed * unit_of(which);
             call(which, w);
         }
-        uint32_t status = which == 8 || which == 16 ? TOURKIT_REFUSED : which == 11 ? TOURKIT_FOUND : TOURKIT_DONE;
+        bool is_refused = which == 8 || which == 11 || which == 19;
+        uint32_t status = is_refused ? TOURKIT_REFUSED : which == 14 ? TOURKIT_FOUND : TOURKIT_DONE;
         expect(w->answer.status == status, "another status than is wanted", which, w->answer.status);
         refuse_each(which);
         if (unit_of(which)) try_rooms(which);

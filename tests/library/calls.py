@@ -14,7 +14,7 @@ import threading
 
 import tourkit
 from tourkit import _limits
-from tourkit._library import CALLS, Answer, output_slice
+from tourkit._library import CALLS, Answer, RouteOptions, output_slice
 from tourkit._text import text_of
 from tourkit._writing import write_texts
 
@@ -42,7 +42,7 @@ def error(kind, call, *arguments, **options):
 
 
 def try_header():
-    """The functions and the answer of the package are those of the C header."""
+    """The functions and the structs of the package are those of the C header."""
     header = (pathlib.Path(__file__).resolve().parents[2] / "include/tourkit.h").read_text()
     known = {"uint32_t": ctypes.c_uint32, "uint64_t": ctypes.c_uint64, "size_t": ctypes.c_size_t, "bool": ctypes.c_bool}
     declared = {}
@@ -51,8 +51,11 @@ def try_header():
         assert given.pop() == "tourkit_answer *answer", name
         declared[name] = tuple(ctypes.c_void_p if "*" in word else known[word.split()[0]] for word in given)
     assert declared == CALLS, "other calls"
-    fields = re.findall(r"(?m)^ +(\w+) (\w+);", re.search(r"typedef struct \{(.*?)\}", header, re.DOTALL)[1])
-    assert [(name, known[kind]) for kind, name in fields] == Answer._fields_, fields
+    structs = {name: body for body, name in re.findall(r"typedef struct \{(.*?)\} (\w+);", header, re.DOTALL)}
+    for name, ours in {"tourkit_answer": Answer, "tourkit_route_options": RouteOptions}.items():
+        fields = re.findall(r"(?m)^ +(\w+) (\w+);", structs.pop(name))
+        assert [(field, known[kind]) for kind, field in fields] == ours._fields_, fields
+    assert not structs, structs
 
 
 def try_problems_of_all_kinds():
@@ -140,7 +143,12 @@ def try_refusals():
             assert (str(told), told.number, told.name, told.line, told.file) == wanted, told
     start = refusal(tourkit.solve, "square.tsp", initial_tour="twice.tour")
     assert str(start) == "twice.tour: initial tour: 3 RepeatedCity 3" and start.number == 3, start
-    assert str(refusal(tourkit.solve, "bakery.vrp", initial_tour=TOUR)) == "bakery.vrp: initial_tour does not fit the problem's type"
+    for file, name, value in (("bakery.vrp", "initial_tour", TOUR), ("bakery.vrp", "construction", "NEAREST"),
+                              ("tri.tsp", "initial_solution", "bakery-plan.sol"), ("tri.tsp", "within_routes", True)):
+        unfit = refusal(tourkit.solve, file, **{name: value})
+        assert (str(unfit), unfit.name) == (f"{file}: {name} does not fit the problem's type", "NotForType"), unfit
+    unserved = refusal(tourkit.solve, "bakery.vrp", initial_solution=b"Route #1: 1\nCost 5\n")
+    assert (str(unserved), unserved.name) == ("<solution>: initial solution: customer not served: 2", "NotServed"), unserved
     many = tourkit.Problem.from_points([(place, 0) for place in range(5001)])
     assert str(refusal(tourkit.matrix, many)) == "<problem>: too large for a matrix"
     error(FileNotFoundError, tourkit.check, "gone.tsp", "tri.tour")
@@ -241,6 +249,33 @@ def try_search_in_pieces():
     assert len(seen) == 3
 
 
+def try_routes_in_pieces():
+    """A piece starts from the best routes of the last piece, and uses the next seeds. The start is that of the first piece."""
+    seen = []
+    found = tourkit.solve("bakery.vrp", seed=2**32 - 2, runs=2, trials=20, pieces=3, progress=seen.append)
+    routes = None
+    for seed, told in zip((2**32 - 2, 0, 2), seen):
+        routes = tourkit.solve("bakery.vrp", seed=seed, runs=2, trials=20, initial_solution=routes)
+        assert (routes.text, routes.customers) == (told.text, told.customers), seed
+    assert found is seen[-1] and [run.run for run in found.runs] == [1, 2, 3, 4, 5, 6], found.runs
+    assert tourkit.check_solution("bakery.vrp", found).cost == found.cost == min(run.best for run in found.runs), found
+    assert {told.start for told in seen} == {tourkit.solve("bakery.vrp", trials=1).start}, seen
+    one = tourkit.solve("bakery.vrp", within_routes=True, pieces=3, progress=seen.append)
+    assert seen[3:] == [one] and len(one.runs) == 1, seen[3:]
+
+
+def try_initial_solutions_of_all_kinds():
+    """An initial solution is a file, a text, lists of customers or the result of a search."""
+    text, listed = pathlib.Path("bakery-plan.sol").read_bytes(), tourkit.read_solution("bakery-plan.sol")
+    wanted = tourkit.solve("bakery.vrp", trials=5, initial_solution="bakery-plan.sol")
+    assert wanted.start == tourkit.RouteStart(11071, 7, None), wanted.start
+    for given in (pathlib.Path("bakery-plan.sol"), text, bytearray(text), listed, [*listed, []], map(tuple, listed)):
+        assert tourkit.solve("bakery.vrp", trials=5, initial_solution=given) == wanted, given
+    assert tourkit.solve("bakery.vrp", trials=1, initial_solution=wanted).start.cost == wanted.cost
+    alone = tourkit.Problem.from_points([(0, 0), (3, 4)], demands=[0, 1], capacity=1)
+    assert tourkit.solve(alone, runs=3, jobs=3).runs == () and tourkit.solve(alone, pieces=2).cost == 10, alone
+
+
 def try_interrupt():
     """`progress` gets the best tour of each piece until an interrupt."""
     seen = []
@@ -324,8 +359,8 @@ def tests():
     """Returns the checks of this file, named by their docstrings."""
     checks = [try_header, try_problems_of_all_kinds, try_tours_of_all_kinds, try_cities_that_are_none,
               try_routes_of_all_kinds, try_depot_is_no_customer, try_refusals, try_arguments_out_of_their_limits,
-              try_limits, try_matrices_in_any_order, try_coordinates_are_exact, try_rooms_of_all_sizes, try_search_in_pieces, try_interrupt,
-              try_calls_in_threads, try_too_little_memory]
+              try_limits, try_matrices_in_any_order, try_coordinates_are_exact, try_rooms_of_all_sizes, try_search_in_pieces,
+              try_routes_in_pieces, try_initial_solutions_of_all_kinds, try_interrupt, try_calls_in_threads, try_too_little_memory]
     if importlib.util.find_spec("numpy"):
         checks.append(try_arrays_of_numpy)
     else:

@@ -9,21 +9,28 @@ from pathlib import Path
 TESTS = Path(__file__).resolve().parents[1]
 sys.path.append(str(TESTS / "readers"))
 
+import refusal
 import texts
 import tourkit
 from tourkit._search import search
 from tourkit._text import Text
 
+# What the package does not have.
+OF_THE_COMMAND = {"--help", "--html", "--vehicles"}
+
 # Messages about the command line, the files that the program opens and writes, or its two ways to search.
 OF_THE_PROGRAM = re.compile(r"^error: |cannot be opened|is the same file as|is the parameter file|search options need")
 
 # The search options that take a value, and the keys of parameter files, by the arguments of `solve`.
-OPTIONS = {"trials": int, "runs": int, "seed": int, "candidates": int, "or_segment": int, "construction": str, "initial_tour": str}
+OPTIONS = {"trials": int, "runs": int, "seed": int, "candidates": int, "or_segment": int, "construction": str, "initial_tour": str,
+           "initial_solution": str}
+FLAGS = ("final_sweep", "within_routes")
 KEYS = {"trials": b"MAX_TRIALS", "runs": b"RUNS", "seed": b"SEED", "candidates": b"MAX_CANDIDATES", "or_segment": b"OR_SEGMENT",
         "construction": b"CONSTRUCTION", "initial_tour": b"INITIAL_TOUR_FILE", "final_sweep": b"FINAL_SWEEP"}
 
 RUN = "run {run}: start {start}, best {best}, trials {trials}, moves {moves}, tests {tests}, swaps {swaps}\n"
-ROUTES = "savings {savings}, routes {routes}\nimproved {improved}, moves {moves}, tests {tests}, swaps {swaps}\n"
+IMPROVED = "savings {savings}, routes {routes}\nimproved {improved}, moves {moves}, tests {tests}, swaps {swaps}\nbest {best}\n"
+ROUTE_RUN = RUN.replace("trials", "routes {routes}, trials", 1)
 
 # The numbers that each row of a matrix keeps, by the format. The matrix is symmetric, so columns are its rows.
 ROWS = {
@@ -58,7 +65,7 @@ class Case:
 
     def has_call(self):
         """Returns whether the package has a function for the arguments."""
-        return self.command in CALLS and not {"--help", "--html"} & set(self.words) and not OF_THE_PROGRAM.search(self.stderr)
+        return self.command in CALLS and not OF_THE_COMMAND & set(self.words) and not OF_THE_PROGRAM.search(self.stderr)
 
     def files(self):
         """Returns its files, and the contents of standard input for `-`, as the package accepts them."""
@@ -90,8 +97,11 @@ def try_case(case):
     except OSError:
         assert case.status == 3 and "14 Read" in case.stderr, "a file could not be read"
         return
-    told = re.sub("<(problem|tour|solution|claim)>", "-", told).replace("initial_tour does", "--initial-tour does")
-    assert told == (case.stderr if case.status and not case.stdout else ""), told
+    told = re.sub("<(problem|tour|solution|claim)>", "-", told)
+    told = re.sub(r"(\w+) (?=does not fit)", lambda name: name[0] if name[1].isupper() else f"--{name[0].replace('_', '-')}", told)
+    if told:
+        out = refusal.printed_for(case.words, told)
+    assert told == (case.stderr if case.status else ""), told
     assert out == case.stdout, out
 
 
@@ -155,6 +165,8 @@ def near(case):
     problem, *rest = case.files()
     lists = tourkit.near(problem, **({"k": int(rest[1])} if rest else {}))
     assert lists == tourkit.near(problem_of(bytes_of(problem)), lists.shape[1]), "other near lists of the problem in memory"
+    if "--json" in case.words:
+        return json_of({"candidates": lists.shape[1], "near": lists.tolist()})
     lines = (f"{city}: {' '.join(map(str, cities))}\n" for city, cities in enumerate(lists.tolist(), 1))
     return "".join(lines).encode()
 
@@ -164,6 +176,8 @@ def matrix(case):
     problem, form = case.files()
     head, _, numbers = tourkit.matrix(problem).partition(b"FULL_MATRIX\nEDGE_WEIGHT_SECTION\n")
     rows = tourkit.distances(problem).tolist()
+    if "--json" in case.words:
+        return json_of({"nodes": len(rows), "weights": rows})
     assert numbers == lines_of(rows) + b"EOF\n", "other numbers than the distances"
     kept = [ROWS[form](row, i) for i, row in enumerate(rows)]
     return head + f"{form}\nEDGE_WEIGHT_SECTION\n".encode() + lines_of(filter(None, kept)) + b"EOF\n"
@@ -190,11 +204,9 @@ def solve_options(case):
         word = rest.pop(0)
         if word in ("-o", "--output"):
             output = rest.pop(0)
-        elif word == "--final-sweep":
-            given["final_sweep"] = True
-        else:
-            name = word[2:].replace("-", "_")
-            given[name] = case.given(OPTIONS[name](rest.pop(0)))
+            continue
+        name = word[2:].replace("-", "_")
+        given[name] = True if name in FLAGS else case.given(OPTIONS[name](rest.pop(0)))
     found = tourkit.solve(case.given(problem), **given)
     assert output is None or found.text == case.written(output), found.text
     return told_of(case, found)
@@ -217,6 +229,9 @@ def solve_parameters(case):
     output = names[b"TOUR_FILE"] or names[b"SOLUTION_FILE"]
     assert output is None or text == case.written(output), text
     arguments = {name: plain(values[key]) for name, key in KEYS.items() if key in values}
+    if tourkit.Problem(problem.file).kind == "cvrp":
+        arguments = {**arguments, "within_routes": True}
+        arguments.pop("construction", None)
     found = tourkit.solve(problem.file, **arguments)
     assert found.text == text, "another search by arguments"
     ignored = [key.decode() for key in ignored]
@@ -248,17 +263,37 @@ def told_of(case, found, ignored=()):
 
 def object_of(found):
     """Returns the result of a search, by the names of --json."""
+    runs = [dataclasses.asdict(run) for run in found.runs]
     if isinstance(found, tourkit.Tour):
-        return {"runs": [dataclasses.asdict(run) for run in found.runs], "best": found.length}
-    work = {name: getattr(found, name) for name in ("moves", "tests", "swaps")}
-    return {"savings": found.savings, "routes": len(found.customers), "improved": found.cost, **work, "best": found.cost}
+        return {"runs": runs, "best": found.length}
+    if not is_improvement(found):
+        return {"start": dataclasses.asdict(found.start), "runs": runs, "best": found.cost, "routes": len(found.customers)}
+    work = {name: runs[0][name] for name in ("moves", "tests", "swaps")}
+    return {"savings": found.start.cost, "routes": len(found.customers), "improved": found.cost, **work, "best": found.cost}
+
+
+def is_improvement(found):
+    """Returns whether each of the routes was improved by itself."""
+    return [run.trials for run in found.runs] == [0]
 
 
 def lines_of_search(found):
     """Returns the lines that the program prints for a search."""
     members = object_of(found)
-    lines = [RUN.format(**run) for run in members["runs"]] if "runs" in members else [ROUTES.format(**members)]
-    return "".join([*lines, "best {best}\n".format(**members)]).encode()
+    if "improved" in members:
+        return IMPROVED.format(**members).encode()
+    if isinstance(found, tourkit.Tour):
+        lines = [*(RUN.format(**run) for run in members["runs"]), "best {best}\n".format(**members)]
+    else:
+        runs = (ROUTE_RUN.format(**run) for run in members["runs"])
+        lines = [start_line(found.start), *runs, "best {best}, routes {routes}\n".format(**members)]
+    return "".join(lines).encode()
+
+
+def start_line(start):
+    """Returns the line of the routes that a search began with."""
+    label, end = ("initial", "") if start.candidates is None else ("savings", f", candidates {start.candidates}")
+    return f"{label} {start.cost}, routes {start.routes}{end}\n"
 
 
 CALLS = {"check": check, "checksol": check_solution, "near": near, "matrix": matrix, "plot": plot, "solve": solve}

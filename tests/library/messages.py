@@ -24,8 +24,8 @@ def matrix(given=((0, 1), (1, 0)), **options):
     return lambda: tourkit.Problem.from_matrix(given, **options)
 
 
-def solve(**options):
-    return lambda: tourkit.solve("tri.tsp", **options)
+def solve(file="tri.tsp", **options):
+    return lambda: tourkit.solve(file, **options)
 
 
 # Calls, each with the kind of its error and the message.
@@ -95,6 +95,14 @@ ERRORS = [
     (solve(initial_tour=[1, 2.5, 3]), TypeError, "initial_tour: city at place 2 is 2.5, not a whole number"),
     (solve(initial_tour=iter([1, 2, 2])), tourkit.Refused, "initial_tour: repeated city at place 3: 2"),
     (solve(initial_tour=[1, 2]), tourkit.Refused, "initial_tour: wrong count: 3 wanted, 2 read"),
+    (solve("bakery.vrp", initial_solution=5), TypeError, f"initial_solution must be {FILE}, Routes or a list of routes, not int"),
+    (solve("bakery.vrp", initial_solution=[[1], 2]), TypeError, "initial_solution: route 2 must be a list of customers, not int"),
+    (solve("bakery.vrp", initial_solution=[[1], ["2"]]), TypeError,
+     "initial_solution: route 2, customer at place 1 is '2', not a whole number"),
+    (solve("bakery.vrp", initial_solution=[[1], [2, 1]]), tourkit.Refused, "initial_solution: customer served twice: 1"),
+    (solve("bakery.vrp", initial_solution=[[1]], within_routes=True), ValueError, "initial_solution cannot be used with within_routes"),
+    (solve("bakery.vrp", candidates=0), ValueError, "candidates must be from 1 to 100, not 0"),
+    (solve("bakery.vrp", initial_tour=[1, 2]), tourkit.Refused, "bakery.vrp: initial_tour does not fit the problem's type"),
     (solve(trials=2.5), TypeError, "trials is 2.5, not a whole number"),
     (solve(seed=-1), ValueError, "seed must be from 0 to 4,294,967,295, not -1"),
     (solve(construction=5), TypeError, "construction must be a str, not int"),

@@ -2,7 +2,8 @@
  * so that tests/run can run this program on the cases of tests/cases.
  * usage: program check PROBLEM TOUR           program matrix PROBLEM FULL_MATRIX
  *        program checksol PROBLEM SOLUTION    program plot PROBLEM [TOUR | SOLUTION]
- *        program near PROBLEM [-k K]          program solve PARAMETERS */
+ *        program near PROBLEM [-k K]          program solve PARAMETERS
+ *        program solve PROBLEM OPTION..       (a search between the routes of a CVRP) */
 #include "tourkit.h"
 #include <inttypes.h>
 #include <stdio.h>
@@ -99,6 +100,8 @@ static int end_refused(const char *const *files, size_t problem, text message, c
     memcpy(line, message.bytes, message.size);
     if (answer->text == 0) {
         fprintf(stderr, "tourkit: %s: %s\n", files[problem - 1], line);
+    } else if (answer->kind >= TOURKIT_BAD_CUSTOMER) {
+        fprintf(stderr, "tourkit: %s: %s\n", files[answer->text - 1], line);
     } else if (answer->kind >= TOURKIT_WRONG_COUNT) {
         tell_clash(files[answer->text - 1], answer);
     } else {
@@ -215,9 +218,49 @@ static int solve(const char *parameter_file) {
     return (int)answer.status;
 }
 
+/* The number that an option sets. */
+static uint32_t *number_of(tourkit_route_options *options, const char *word) {
+    if (!strcmp(word, "--runs")) return &options->runs;
+    if (!strcmp(word, "--trials")) return &options->trials;
+    if (!strcmp(word, "--seed")) return &options->seed;
+    if (!strcmp(word, "--candidates")) return &options->candidates;
+    expect(!strcmp(word, "--or-segment"), "the options are those of a search between routes");
+    return &options->or_segment;
+}
+
+/* Runs `solve` with options: a search between routes. */
+static int solve_routes(int count, char **words) {
+    tourkit_route_options options = {.runs = 1, .seed = 1, .candidates = 12, .or_segment = 3};
+    const char *files[] = {words[2], NULL}, *output = NULL;
+    for (int i = 3; i < count; i++) {
+        const char *word = words[i];
+        if (!strcmp(word, "--final-sweep")) {
+            options.final_sweep = true;
+            continue;
+        }
+        expect(++i < count, "the option has a value");
+        if (!strcmp(word, "-o") || !strcmp(word, "--output")) output = words[i];
+        else if (!strcmp(word, "--initial-solution")) files[1] = words[i];
+        else *number_of(&options, word) = (uint32_t)strtoul(words[i], NULL, 10);
+    }
+    options.from_solution = files[1] != NULL;
+    text problem = read_word(files[0]), initial = files[1] ? read_word(files[1]) : room_for(0);
+    text lines = room_for(1 << 16), file = room_for(1 << 18);
+    tourkit_answer answer;
+    tourkit_solve_routes(problem.bytes, problem.size, initial.bytes, initial.size, &options, lines.bytes, lines.size, file.bytes, file.size,
+                         &answer);
+    expect(answer.needed <= lines.size && answer.needed_file <= file.size, "the texts have room");
+    lines.size = answer.needed;
+    file.size = answer.needed_file;
+    if (answer.status > TOURKIT_FOUND) return end_refused(files, 1, lines, &answer);
+    print(stdout, lines);
+    if (output) save(output, file);
+    return (int)answer.status;
+}
+
 int main(int count, char **words) {
     expect(count >= 3, "there are words");
-    if (!strcmp(words[1], "solve")) return solve(words[2]);
+    if (!strcmp(words[1], "solve")) return count == 3 ? solve(words[2]) : solve_routes(count, words);
     const char *files[] = {words[2], NULL};
     command given = {words[1], {NULL, 0}, {NULL, 0}, CANDIDATES};
     if (!strcmp(words[1], "near")) {

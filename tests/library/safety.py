@@ -69,7 +69,9 @@ def make_each_call():
         tourkit.near(problem, 2), tourkit.distances(problem), tourkit.matrix(problem)
     found = tourkit.solve(text, runs=1, initial_tour=cities)
     assert tourkit.check(text, tourkit.Tour(found.length, found.cities, found.runs, bytearray(found.text)))
-    tourkit.check_solution("bakery.vrp", bytearray(pathlib.Path("bakery-plan.sol").read_bytes()))
+    plan = bytearray(pathlib.Path("bakery-plan.sol").read_bytes())
+    tourkit.check_solution("bakery.vrp", plan)
+    tourkit.solve("bakery.vrp", trials=1, initial_solution=plan)
     with contextlib.suppress(tourkit.Refused):
         tourkit.near(bytearray(b"EOF\n"))
 
@@ -80,10 +82,11 @@ def ctypes_array(cities):
 
 
 def try_inputs_are_bytes():
-    """The inputs of a call are `bytes`, which no other thread can change, at addresses that the header allows."""
+    """The texts and arrays of a call are `bytes`, which no other thread can change, at addresses that the header allows. The options of a
+    search are a structure that is made for the call."""
     reads = {}
     for name, parameters in re.findall(r"void (tourkit_\w+)\(([^)]*)\);", HEADER.read_text()):
-        reads[name] = [place for place, word in enumerate(parameters.split(",")) if "const" in word]
+        reads[name] = [place for place, word in enumerate(parameters.split(",")) if "const" in word and "tourkit_" not in word]
     recorder = _library.LIBRARY = Recorder()
     try:
         make_each_call()

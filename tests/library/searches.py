@@ -2,6 +2,7 @@
 
 import _thread
 import contextlib
+import functools
 import os
 import random
 import re
@@ -11,6 +12,7 @@ import sys
 import threading
 import time
 
+import cases
 import safety
 import tourkit
 from tourkit import _nearest, _search
@@ -82,8 +84,33 @@ def try_jobs(program, folder):
     assert split > 100, split
 
 
+def try_jobs_of_routes(program, folder):
+    """A search between routes with runs in threads has the bytes of the search of the program, for each start."""
+    places = random.Random(11)
+    points = [(places.randrange(1000), places.randrange(1000)) for _ in range(40)]
+    scattered = tourkit.Problem.from_points(points, demands=[0, *(places.randrange(1, 9) for _ in range(39))], capacity=20)
+    (folder / "scattered.vrp").write_bytes(scattered.text)
+    for file in ("bakery.vrp", folder / "scattered.vrp"):
+        (folder / "start.sol").write_bytes(tourkit.solve(file, within_routes=True).text)
+        for words, options in {
+            ("--runs", "4", "--trials", "30"): {"trials": 30},
+            ("--runs", "3", "--trials", "30", "--seed", "4294967293"): {"trials": 30, "seed": 2**32 - 3},
+            ("--runs", "3", "--trials", "30", "--seed", "4294967294"): {"trials": 30, "seed": 2**32 - 2},
+            ("--runs", "3", "--trials", "9", "--final-sweep", "--candidates", "4"): {"trials": 9, "final_sweep": True, "candidates": 4},
+            ("--runs", "5", "--trials", "9", "--initial-solution", folder / "start.sol"): {"trials": 9, "initial_solution": folder / "start.sol"},
+            ("--runs", "2"): {},
+        }.items():
+            wanted = search_by_program(program, file, folder, *words)
+            for jobs, _search.LONG in ((1, LONG), (1, 1), (4, LONG)):
+                before = len(ROUTE_CALLS)
+                routes = tourkit.solve(file, runs=int(words[1]), jobs=jobs, **options)
+                assert (cases.lines_of_search(routes).decode(), routes.text) == wanted, (file, words, jobs)
+                calls = 1 if options.get("seed") == 2**32 - 2 or (jobs, _search.LONG) == (1, LONG) else int(words[1])
+                assert len(ROUTE_CALLS) - before == calls, (file, words, jobs, len(ROUTE_CALLS) - before)
+
+
 # The numbers of runs of the calls of the library.
-CALLS = []
+CALLS, ROUTE_CALLS = [], []
 
 
 def count_calls(*arguments):
@@ -92,7 +119,13 @@ def count_calls(*arguments):
     return search(*arguments)
 
 
-search, LONG = _search.search, _search.LONG
+def count_route_calls(*arguments):
+    """Makes a search between routes by the library, and records its number of runs."""
+    ROUTE_CALLS.append(arguments[-1].runs)
+    return search_routes(*arguments)
+
+
+search, search_routes, LONG = _search.search, _search.search_routes, _search.LONG
 
 
 def try_starts():
@@ -219,6 +252,13 @@ def interrupt_searches():
         assert best and len(best.runs) >= 3 and tourkit.check(problem, best).length == best.length, options
         assert best.length == min(run.best for run in best.runs) and len({run.run for run in best.runs}) == len(best.runs), options
         assert not seen or best.length <= seen[-1].length, options
+    demands = [0, *(places.randrange(1, 9) for _ in range(599))]
+    points = [(places.randrange(10**4), places.randrange(10**4)) for _ in demands]
+    problem = tourkit.Problem.from_points(points, demands=demands, capacity=60)
+    for options in ({"jobs": 3}, {"runs": 1, "pieces": 10_000}):
+        best, _ = interrupted(3, problem, **{"runs": 10_000, "trials": 60, **options})
+        assert best and best.runs and tourkit.check_solution(problem, best).cost == best.cost, options
+        assert len({run.run for run in best.runs}) == len(best.runs), options
 
 
 def try_many_interrupts():
@@ -269,15 +309,15 @@ except KeyboardInterrupt as stop:
 def tests(program, folder):
     """Returns the checks of this file, each with its description."""
 
-    def jobs():
-        _search.search = count_calls
+    def jobs(check):
+        _search.search, _search.search_routes = count_calls, count_route_calls
         try:
-            try_jobs(program, folder)
+            check(program, folder)
         finally:
-            _search.search, _search.LONG = search, LONG
+            _search.search, _search.search_routes, _search.LONG = search, search_routes, LONG
 
     return [
-        (try_jobs.__doc__, jobs),
+        *((check.__doc__, functools.partial(jobs, check)) for check in (try_jobs, try_jobs_of_routes)),
         *((check.__doc__, check) for check in (try_starts, try_pieces_with_jobs, try_too_few_threads, try_errors, try_interrupts, try_many_interrupts)),
         (try_interrupted_process.__doc__, lambda: try_interrupted_process(folder)),
         (try_faster.__doc__, lambda: try_faster(folder)),

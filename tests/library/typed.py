@@ -33,10 +33,14 @@ def solve_tsp() -> List[int]:
 def solve_cvrp() -> List[List[int]]:
     """Returns the customers of routes. The result of a CVRP is Routes."""
     problem = tourkit.Problem.from_points([(0, 0), (3.5, 4), (0, 8)], demands=[0, 1, 2], capacity=2)
-    routes: tourkit.Routes = tourkit.solve(problem, jobs=2, progress=lambda routes: routes.cost > 5)
+    routes: tourkit.Routes = tourkit.solve(problem, jobs=2, runs=3, pieces=2, progress=lambda routes: routes.cost > 5)
+    start: tourkit.RouteStart = routes.start
+    print(start.cost, start.candidates, sum(run.routes for run in routes.runs))
     known: Tuple[int, int, Tuple[int, ...]] = (problem.capacity, problem.depot, problem.demands)
     print(known, tourkit.check_solution(problem, routes).cost)
-    return routes.customers + tourkit.solve(tourkit.CVRP("bakery.vrp")).customers
+    again: tourkit.Routes = tourkit.solve(problem, initial_solution=routes.customers)
+    within: tourkit.Routes = tourkit.solve(tourkit.CVRP("bakery.vrp"), within_routes=True)
+    return again.customers + within.customers
 
 
 def main() -> None:

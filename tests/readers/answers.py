@@ -10,6 +10,7 @@ import sys
 
 sys.dont_write_bytecode = True
 
+import refusal
 from texts import Fault, ParamFault, UNIT, places, read_params, read_problem, read_solution, read_tour
 
 
@@ -97,6 +98,30 @@ def check(problem_file, tour_file):
     return f"tour of {problem.n} cities, length {cycle_length(problem, cities)}\n", 0
 
 
+def plain(units):
+    """Returns a number of units of 10^-9 as a decimal number, without zeros at the end."""
+    digits = f"{abs(units) // 10**9}.{abs(units) % 10**9:09}".rstrip("0").rstrip(".")
+    return "-" * (units < 0) + digits
+
+
+def info(problem_file):
+    problem = read_file(problem_file, open_word(problem_file), read_problem)
+    lines = [b"name: " + problem.name, b"type: " + (b"CVRP" if problem.cvrp else b"TSP"), b"dimension: %d" % problem.n,
+             b"distances: " + problem.kind]
+    if problem.kind == b"EXPLICIT":
+        lines.append(b"coordinates: none")
+    else:
+        axes = list(zip(*problem.points.values()))
+        whole = all(units % 10**9 == 0 for axis in axes for units in axis)
+        lines.append(b"coordinates: whole" if whole else b"coordinates: decimal")
+        lines += [f"{name}: {plain(min(axis))} to {plain(max(axis))}".encode() for name, axis in zip("xy", axes)]
+    if problem.cvrp:
+        total = sum(problem.demand.values())
+        lines += [b"capacity: %d" % problem.capacity, b"depot: %d" % problem.depot, b"total demand: %d" % total,
+                  b"vehicles: at least %d" % -(-total // problem.capacity)]
+    return b"".join(line + b"\n" for line in lines), 0
+
+
 def near(problem_file, k):
     problem = read_file(problem_file, open_word(problem_file), read_problem)
     cities = range(1, problem.n + 1)
@@ -155,14 +180,14 @@ def solution_fault(problem, routes, cost):
     return None
 
 
-FIRST_COLOURS = ["#0072B2", "#D55E00", "#009E73", "#CC79A7", "#E69F00", "#56B4E9", "#000000"]
+FIRST_COLOURS = ["#0072B2", "#C35050", "#786E00", "#78234B", "#050ABE", "#004100", "#000000"]
 ENTITIES = {"&": "&amp;", "<": "&lt;", ">": "&gt;", '"': "&quot;"}
 
 
 def walk_of_colours():
     """Yields the colours of a walk from red to red, from which the colours from the eighth on are taken."""
-    red, green, blue = 190, 0, 0
-    for channel, step, count in (("g", 1, 140), ("r", -1, 190), ("b", 1, 250), ("g", -1, 140), ("r", 1, 190), ("b", -1, 250)):
+    red, green, blue = 150, 0, 0
+    for channel, step, count in (("g", 1, 110), ("r", -1, 150), ("b", 1, 250), ("g", -1, 110), ("r", 1, 150), ("b", -1, 250)):
         for _ in range(count):
             yield f"rgb({red},{green},{blue})"
             red, green, blue = (red + step * (channel == "r"), green + step * (channel == "g"), blue + step * (channel == "b"))
@@ -172,7 +197,7 @@ WALK = list(walk_of_colours())
 
 
 def colour(number):
-    return FIRST_COLOURS[number - 1] if number <= 7 else WALK[443 * number % 1160]
+    return FIRST_COLOURS[number - 1] if number <= 7 else WALK[389 * number % 1020]
 
 
 def shown(name):
@@ -206,6 +231,18 @@ def plot(problem_file, claim_file=None):
     return picture(problem, f"{len(paths)} routes, cost {cost}", paths, True), 0
 
 
+def lines_through(paths, spot, small, are_routes):
+    """Returns the lines of a picture that draw paths: closed lines, or from 20 routes on, pale lines at the depot and then the others."""
+    def line(shape, number, path):
+        return [f'<{shape} stroke="{colour(number)}" points="', *(spot[c] for c in path), '"/>']
+
+    if not are_routes or len(paths) < 20:
+        return [text for number, path in paths.items() for text in line("polygon", number, path)]
+    return [f'<g class="depot-lines" stroke-opacity=".5" stroke-width="{8 if small else 3}">',
+            *(text for number, path in paths.items() for text in line("polyline", number, [path[-1], *path[:2]])), "</g>",
+            *(text for number, path in paths.items() for text in line("polyline", number, path[1:]))]
+
+
 def picture(problem, caption, paths, numbered=False):
     """Returns the text of a picture, with closed lines through cities, which are given by their numbers."""
     cities = range(1, problem.n + 1)
@@ -222,31 +259,48 @@ def picture(problem, caption, paths, numbered=False):
              f'<text x="20" y="40" font-family="sans-serif" font-size="24">{title}</text>',
              f'<g transform="translate({20 + (1000 - width) // 2} {60 + (room - height) // 2}) scale(0.1)" fill="none" '
              f'stroke-linecap="round" stroke-linejoin="round" stroke-width="{20 if small else 6}">']
-    for number, path in paths.items():
-        lines += [f'<polygon stroke="{colour(number)}" points="', *(spot[c] for c in path), '"/>']
+    lines += lines_through(paths, spot, small, numbered)
     if small or not paths:
         lines.append(f'<path stroke="black" stroke-width="{60 if small else 12}" d="')
         lines += [*(f"M{spot[c]}h0" for c in cities), '"/>']
+    if numbered:
+        numbers = [f'<text transform="translate({spot[path[1]]})" dy="-.4em" fill="{colour(number)}">{number}</text>'
+                   for number, path in paths.items()]
+        lines += ['<g font-family="sans-serif" font-weight="bold" text-anchor="middle" '
+                  f'font-size="{140 if small else 60}">',
+                  f'<g class="halo" aria-hidden="true" stroke="white" stroke-width="{40 if small else 17}">',
+                  *numbers, "</g>", *numbers, "</g>"]
     if problem.cvrp:
         lines.append(f'<path fill="black" d="M{spot[problem.depot]}m-80,-80h160v160h-160z"/>')
-    if numbered:
-        lines.append('<g font-family="sans-serif" font-weight="bold" text-anchor="middle" '
-                     f'font-size="{140 if small else 60}">')
-        lines += [f'<text transform="translate({spot[path[1]]})" dy="-.4em" fill="{colour(number)}">{number}</text>'
-                  for number, path in paths.items()]
-        lines.append("</g>")
     return "\n".join([*lines, "</g>", "</svg>", ""])
+
+
+# The options of solve that are only for a TSP, and those that are only for a CVRP, in the order in which they are compared with the problem.
+FOR_TOURS = ["--initial-tour", "--construction"]
+FOR_ROUTES = ["--initial-solution", "--vehicles", "--within-routes"]
 
 
 def solve_by_options(problem_file, options):
     """Like solve, but for a problem and options with their values."""
-    initial_file = options.get("--initial-tour")
+    initial_file = options.get("--initial-tour") or options.get("--initial-solution")
     opened = open_word(problem_file), initial_file and open_word(initial_file)
     problem = read_file(problem_file, opened[0], read_problem)
-    if problem.cvrp and initial_file:
-        raise Refused(f"tourkit: {problem_file}: --initial-tour does not fit the problem's type", 2)
-    check_initial(problem, initial_file, opened[1])
+    for option in FOR_TOURS if problem.cvrp else FOR_ROUTES:
+        if option in options:
+            raise Refused(f"tourkit: {problem_file}: {option} does not fit the problem's type", 2)
+    if problem.cvrp:
+        check_initial_solution(problem, initial_file, opened[1])
+    else:
+        check_initial(problem, initial_file, opened[1])
     return "", None
+
+
+def check_initial_solution(problem, initial_file, opened):
+    """Rejects an initial solution that is not valid."""
+    if initial_file:
+        fault = solution_fault(problem, *read_file(initial_file, opened, read_solution))
+        if fault:
+            raise Refused(f"tourkit: {initial_file}: initial solution: {fault}", 2)
 
 
 def check_initial(problem, initial_file, opened):
@@ -259,9 +313,10 @@ def check_initial(problem, initial_file, opened):
 
 def solve(file, *options):
     """Rejects what solve rejects. Otherwise returns the lines that name ignored keys, and None for the status."""
-    valued = [word for word in options if word not in ("--progress", "--final-sweep")]
-    if valued or "--final-sweep" in options:
-        return solve_by_options(file, dict(zip(valued[::2], valued[1::2])))
+    flags = [word for word in options if word in ("--final-sweep", "--within-routes")]
+    valued = [word for word in options if word not in ("--progress", *flags)]
+    if valued or flags:
+        return solve_by_options(file, dict(zip(valued[::2], valued[1::2])) | dict.fromkeys(flags))
     values, ignored = read_file(file, open_word(file), read_params)
     problem_file, initial_file = values[b"PROBLEM_FILE"], values.get(b"INITIAL_TOUR_FILE")
     opened = open_file(problem_file), initial_file and open_file(initial_file)
@@ -298,12 +353,32 @@ def object_of(line):
     return line
 
 
+def as_object(words):
+    """Returns standard output with --json, standard error and status."""
+    out, told, status = answer([*words[:2], "FULL_MATRIX"] if words[0] == "matrix" else words)
+    if told:
+        out = refusal.printed_for([*words, "--json"], told.decode())
+    elif words[0] in ("near", "matrix"):
+        out = json.dumps(rows_of(words[0], out.decode().splitlines()), separators=(",", ":")).encode() + b"\n"
+    else:
+        out = object_of(out.decode()).encode()
+    return out, told, status
+
+
+def rows_of(command, lines):
+    """Returns the object that near and matrix print with --json, from the lines of near or of a full matrix."""
+    if command == "near":
+        lists = [[int(city) for city in line.partition(": ")[2].split()] for line in lines]
+        return {"candidates": len(lists[0]), "near": lists}
+    rows = [[int(distance) for distance in line.split()] for line in lines[lines.index("EDGE_WEIGHT_SECTION") + 1 : -1]]
+    return {"nodes": len(rows), "weights": rows}
+
+
 def answer(words):
     """Returns standard output, standard error and status."""
     if "--json" in words:
-        out, told, status = answer([word for word in words if word != "--json"])
-        return object_of(out.decode()).encode(), told, status
-    commands = {"check": check, "near": near, "matrix": matrix, "checksol": checksol, "plot": plot, "solve": solve}
+        return as_object([word for word in words if word != "--json"])
+    commands = {"check": check, "info": info, "near": near, "matrix": matrix, "checksol": checksol, "plot": plot, "solve": solve}
     if words[0] == "near":
         words = words[:2] + [int(words[3]) if len(words) > 2 else 5]
     try:

@@ -223,7 +223,8 @@ def case(random, commands):
         files["t"] = text(random, tour(random, n), random.random() < 0.2)
     if random.random() < 0.03:
         files[random.choice(list(files))] = random.choice([None, DIRECTORY])
-    words = {"plot": ["plot", "p"] + [other] * bool(other), "near": ["near", "p"] + random.choice([[], ["-k", "1"], ["-k", "3"], ["-k", "100"]]),
+    words = {"info": ["info", "p"], "plot": ["plot", "p"] + [other] * bool(other),
+             "near": ["near", "p"] + random.choice([[], ["-k", "1"], ["-k", "3"], ["-k", "100"]]),
              "matrix": ["matrix", "p", random.choice(FORMATS).decode()], "solve": ["solve", "x"]}
     return words.get(command) or [command, "p", other], files
 

@@ -77,6 +77,7 @@ class Solved:
     routes: list
     cost: int
     start: int
+    start_routes: int
     candidates: int | None
     runs: list
 
@@ -328,4 +329,4 @@ def solve(instance, node, options):
     }
     runs = [search(instance, start, near, options, options.seed + j) for j in range(options.runs if len(customers) > 1 else 0)]
     cost, best = min([(ring.length(), ring.order), *((run.best, best) for run, best in runs)], key=lambda found: found[0])
-    return Solved(read_routes(ring, best), cost, ring.length(), candidates, [run for run, _ in runs])
+    return Solved(read_routes(ring, best), cost, ring.length(), len(start), candidates, [run for run, _ in runs])

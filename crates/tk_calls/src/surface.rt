@@ -58,10 +58,13 @@ pub mod routes {
 /// The program as a library.
 pub mod engines {
     pub use tk_engines::{
-        Construction, Fault, FoundRoutes, FoundTour, Key, ParamFault, ParamKind, Params,
-        ParamsBuilder, Plotted, Progress, RouteVerdict, SearchOutcome, TourFault, TourOutcome,
-        Unwatched, Verdict, Watch, check_engine, key_of, matrix_engine, near_engine, plot_engine,
-        read_params, route_check_engine, route_outcome, search_outcome, solve_engine, tour_outcome,
-        write_found, write_route_verdict, write_search_lines, write_tour_outcome,
+        BetweenOptions, Construction, Fault, FoundBetween, FoundRoutes, FoundTour, Key, ParamFault,
+        ParamKind, Params, ParamsBuilder, Plotted, Progress, RouteFault, RouteProgress, RouteRun,
+        RouteVerdict, RouteWatch, SearchOutcome, TourFault, TourOutcome, Unwatched, Verdict, Watch,
+        between_engine, between_outcome, check_engine, key_of, matrix_engine, near_engine,
+        plot_engine, read_params, route_check_engine, route_outcome, search_between,
+        search_outcome, search_problem, solve_engine, tour_outcome, write_found,
+        write_route_run_line, write_route_verdict, write_run_line, write_search_lines,
+        write_tour_outcome,
     };
 }

@@ -32,15 +32,22 @@ pub enum Asked<'a> {
         what: &'a str,
         line: Option<u64>,
     },
-    /// `matrix PROBLEM FORMAT`
+    /// `info PROBLEM [--json]`
+    Info {
+        problem: &'a str,
+        json: bool,
+    },
+    /// `matrix PROBLEM FORMAT [--json]`
     Matrix {
         problem: &'a str,
         format: &'a str,
+        json: bool,
     },
-    /// `near PROBLEM -k N`
+    /// `near PROBLEM -k N [--json]`
     Near {
         problem: &'a str,
         length: ListLength,
+        json: bool,
     },
     /// `plot PROBLEM [TOUR | SOLUTION] [--html]`
     Plot {
@@ -54,6 +61,21 @@ pub enum Asked<'a> {
         options: Option<SearchOptions<'a>>,
         shown: Shown,
     },
+}
+
+impl Asked<'_> {
+    /// Whether one JSON object is requested instead of text.
+    pub fn is_json(&self) -> bool {
+        match *self {
+            Asked::Check { json, .. }
+            | Asked::Checksol { json, .. }
+            | Asked::Info { json, .. }
+            | Asked::Matrix { json, .. }
+            | Asked::Near { json, .. } => json,
+            Asked::Solve { shown, .. } => shown.json,
+            Asked::Completions { .. } | Asked::Explain { .. } | Asked::Plot { .. } => false,
+        }
+    }
 }
 
 /// The display options of `solve`.

@@ -16,7 +16,7 @@ Run tourkit explain NUMBER to see what a fault means, and tourkit explain FILE t
 
 Exit status:
   0  the command succeeded, or help was shown
-  1  a check found a fault in the tour or in the routes
+  1  a check found a fault in the tour or in the routes, or a solution has more routes than solve --vehicles states
   2  the arguments are wrong, or a file is invalid or does not fit
   3  a file cannot be read or written, output cannot be written, or memory has run out
 

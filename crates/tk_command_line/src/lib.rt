@@ -13,5 +13,5 @@ mod tips;
 
 pub use asked::{Asked, STANDARD, Shown};
 pub use completions::Shell;
-pub use parsing::{Refusal, parse};
+pub use parsing::{NoRequest, parse};
 pub use search_options::SearchOptions;

@@ -3,8 +3,9 @@
 use crate::asked::{Asked, STANDARD};
 use crate::command::{refused, tourkit};
 use crate::completions;
+use crate::search_options::SearchOptions;
 use crate::subcommand::Kind;
-use crate::subcommands::{check, checksol, explain, matrix, named, near, plot, solve};
+use crate::subcommands::{check, checksol, explain, info, matrix, named, near, plot, solve};
 use crate::tips::with_tips;
 use clap::error::ErrorKind;
 use clap::{ArgMatches, Error};
@@ -19,8 +20,16 @@ const TWICE_STANDARD: &str = "only one file can be '-' (standard input)";
 /// The message if standard input is named as the output file.
 const STANDARD_OUTPUT: &str = "'--output' cannot be '-', which means standard input";
 
+/// The message if the runs of a search would begin with a tour and with routes.
+const TWO_STARTS: &str =
+    "the argument '--initial-tour <TOUR>' cannot be used with '--initial-solution <SOLUTION>'";
+
+/// The message about routes to begin with, if each route is improved by itself.
+const NO_START: &str =
+    "the argument '--initial-solution <SOLUTION>' cannot be used with '--within-routes'";
+
 /// Why there is no request.
-pub enum Refusal {
+pub enum NoRequest {
     /// Memory ran out.
     NoMemory,
     /// Help, the version or the error about the arguments could not be written.
@@ -32,28 +41,28 @@ pub enum Refusal {
 /// Parses the arguments of a call. If they do not make a request, writes help, the version or the error about them.
 ///
 /// # Errors
-/// A `Refusal` if there is no request.
-pub fn parse<'a>(rt: &HostRuntime, words: &'a [String]) -> Result<Asked<'a>, Refusal> {
+/// `NoRequest`, as it says.
+pub fn parse<'a>(rt: &HostRuntime, words: &'a [String]) -> Result<Asked<'a>, NoRequest> {
     match asked(rt.alloc(), words) {
         Ok(Some(asked)) => Ok(asked),
-        Ok(None) => Err(Refusal::Told(USAGE)),
+        Ok(None) => Err(NoRequest::Told(USAGE)),
         Err(error) => Err(tell(rt, words, &error)),
     }
 }
 
 /// Writes help, the version or the error about the arguments.
-fn tell(rt: &HostRuntime, words: &[String], error: &Error) -> Refusal {
+fn tell(rt: &HostRuntime, words: &[String], error: &Error) -> NoRequest {
     if error.kind() == ErrorKind::OutOfMemory {
-        return Refusal::NoMemory;
+        return NoRequest::NoMemory;
     }
     let written = match with_tips(rt.alloc(), words, error) {
         Ok(Some(text)) => eprint!(rt; "{text}"),
         Ok(None) => error.print(rt),
-        Err(_) => return Refusal::NoMemory,
+        Err(_) => return NoRequest::NoMemory,
     };
     match written {
-        Ok(()) => Refusal::Told(error.exit_code() as u8),
-        Err(_) => Refusal::Unwritten,
+        Ok(()) => NoRequest::Told(error.exit_code() as u8),
+        Err(_) => NoRequest::Unwritten,
     }
 }
 
@@ -83,8 +92,34 @@ fn asked_of<'a>(
     }
 }
 
-/// The message about arguments that cannot be combined: standard input is named twice, or as the output file.
+/// The message about arguments that cannot be combined.
 fn misfit(asked: &Asked<'_>) -> Option<&'static str> {
+    match asked {
+        Asked::Solve {
+            options: Some(options),
+            ..
+        } => match start_misfit(options) {
+            Some(message) => Some(message),
+            None => file_misfit(asked),
+        },
+        _ => file_misfit(asked),
+    }
+}
+
+/// The message about options that cannot be combined with `--initial-solution`.
+fn start_misfit(options: &SearchOptions<'_>) -> Option<&'static str> {
+    options.initial_solution?;
+    if options.initial_tour.is_some() {
+        Some(TWO_STARTS)
+    } else if options.within_routes {
+        Some(NO_START)
+    } else {
+        None
+    }
+}
+
+/// The message about files that cannot be combined: standard input is named twice, or as the output file.
+fn file_misfit(asked: &Asked<'_>) -> Option<&'static str> {
     let (first, second, written) = match *asked {
         Asked::Check { problem, tour, .. } => (problem, Some(tour), None),
         Asked::Checksol {
@@ -97,7 +132,7 @@ fn misfit(asked: &Asked<'_>) -> Option<&'static str> {
             file,
             options: Some(options),
             ..
-        } => (file, options.initial_tour, options.output),
+        } => (file, options.initial(), options.output),
         _ => return None,
     };
     if first == STANDARD && second == Some(STANDARD) {
@@ -115,6 +150,7 @@ fn asked_by<'a>(kind: Kind, words: &ArgMatches<'a>) -> Option<Asked<'a>> {
         Kind::Check => check::asked(words),
         Kind::Checksol => checksol::asked(words),
         Kind::Explain => explain::asked(words),
+        Kind::Info => info::asked(words),
         Kind::Matrix => matrix::asked(words),
         Kind::Near => near::asked(words),
         Kind::Plot => plot::asked(words),

@@ -7,6 +7,8 @@ pub struct SearchOptions<'a> {
     pub output: Option<&'a str>,
     /// `--initial-tour`: the tour that each run begins with.
     pub initial_tour: Option<&'a str>,
+    /// `--initial-solution`: the routes that each run begins with.
+    pub initial_solution: Option<&'a str>,
     /// `--runs`
     pub runs: Option<&'a str>,
     /// `--trials`: the number of trials per run.
@@ -21,14 +23,19 @@ pub struct SearchOptions<'a> {
     pub or_segment: Option<&'a str>,
     /// `--final-sweep`
     pub final_sweep: bool,
+    /// `--vehicles`: the number of vehicles that there are for the routes.
+    pub vehicles: Option<u32>,
+    /// `--within-routes`: whether savings routes are improved, each by itself.
+    pub within_routes: bool,
 }
 
-impl SearchOptions<'_> {
+impl<'a> SearchOptions<'a> {
     /// Whether any option was given.
     pub fn are_given(&self) -> bool {
         let values = [
             self.output,
             self.initial_tour,
+            self.initial_solution,
             self.runs,
             self.trials,
             self.seed,
@@ -36,6 +43,16 @@ impl SearchOptions<'_> {
             self.construction,
             self.or_segment,
         ];
-        self.final_sweep || values.iter().any(|value| value.is_some())
+        let flags = [
+            self.final_sweep,
+            self.within_routes,
+            self.vehicles.is_some(),
+        ];
+        flags.contains(&true) || values.iter().any(|value| value.is_some())
+    }
+
+    /// The file that each run begins with, a tour or routes.
+    pub fn initial(&self) -> Option<&'a str> {
+        self.initial_tour.or(self.initial_solution)
     }
 }

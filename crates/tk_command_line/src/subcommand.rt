@@ -24,6 +24,7 @@ pub enum Kind {
     Check,
     Checksol,
     Explain,
+    Info,
     Matrix,
     Near,
     Plot,

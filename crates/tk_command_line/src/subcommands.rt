@@ -2,6 +2,7 @@
 pub mod check;
 pub mod checksol;
 pub mod explain;
+pub mod info;
 pub mod matrix;
 pub mod near;
 pub mod plot;
@@ -10,11 +11,12 @@ pub mod solve;
 use crate::subcommand::Subcommand;
 
 /// All subcommands, in the order of the help.
-pub fn all() -> [Subcommand; 7] {
+pub fn all() -> [Subcommand; 8] {
     [
         check::subcommand(),
         checksol::subcommand(),
         explain::subcommand(),
+        info::subcommand(),
         matrix::subcommand(),
         near::subcommand(),
         plot::subcommand(),

@@ -60,6 +60,7 @@ module _ {B R T : Type 0} (task : Task B R T) (Problem ProblemMore : Reading Pro
   ends_more (Err (faults.Tour f)) h = refused_more h
   ends_more (Err (faults.Solution f)) h = refused_more h
   ends_more (Err (faults.Initial f)) h = (h.0, h.1, read_more h.0 h.1 h.2, h.3)
+  ends_more (Err (faults.InitialRoutes f)) h = (h.0, h.1, read_more h.0 h.1 h.2, h.3)
   ends_more (Err faults.NoMemory) h = (h.0, h.1, read_more h.0 h.1 h.2, h.3)
   ends_more (Err (faults.Write f)) h = (h.0, given_more (Writes (Err f)) h.0 h.1)
   ends_more (Err _) h = misfit_more h

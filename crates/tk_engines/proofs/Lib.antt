@@ -1,3 +1,4 @@
+pub mod BetweenEnds
 pub mod ClaimsPlotted
 pub mod Ends
 pub mod FilesWritten
@@ -8,4 +9,5 @@ pub mod ReadTables
 pub mod RouteChecks
 pub mod Shown
 pub mod SolveEnds
+pub mod StartChecks
 pub mod TextsRead

@@ -1,3 +1,5 @@
+pub mod Decimals
+pub mod InfoLines
 pub mod Labels
 pub mod LineLengths
 pub mod NearLines

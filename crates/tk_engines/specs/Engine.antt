@@ -154,6 +154,9 @@ Stopped task Problem Second Writes (faults.Solution f) = IsSecondRefused task Pr
 Stopped {B} task Problem Second Writes (faults.Initial f) =
     (p : ProblemIs) × (second : B) × AreRead task Problem (Second p) p second
     × task.IsClash p second (Some (faults.Initial f))
+Stopped {B} task Problem Second Writes (faults.InitialRoutes f) =
+    (p : ProblemIs) × (second : B) × AreRead task Problem (Second p) p second
+    × task.IsClash p second (Some (faults.InitialRoutes f))
 Stopped {B} task Problem Second Writes faults.NoMemory =
     (p : ProblemIs) × (second : B) × AreRead task Problem (Second p) p second × (task.takes_memory ≡ true)
 Stopped {B} {R} task Problem Second Writes (faults.Write f) =

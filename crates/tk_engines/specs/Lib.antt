@@ -1,5 +1,7 @@
+pub mod Between
 pub mod Check
 pub mod Engine
+pub mod Info
 pub mod Lines
 pub mod MatrixOf
 pub mod NearText

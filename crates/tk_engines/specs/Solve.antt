@@ -40,7 +40,7 @@ use Rattle.tk_engines.specs.Lines.SolveLines.{search_lines}
 use Rattle.tk_engines.specs.declared.outcomes.search.FoundRoutes.{FoundRoutes}
 use Rattle.tk_engines.specs.declared.outcomes.search.FoundTour.{FoundTour}
 use Rattle.tk_engines.specs.declared.outcomes.search.SearchOutcome.{SearchOutcome}
-use Rattle.tk_engines.specs.declared.outcomes.search.SearchOutcome.TheVariants.{Routes}
+use Rattle.tk_engines.specs.declared.outcomes.search.SearchOutcome.TheVariants.{Between, Routes}
 use Rattle.tk_engines.specs.declared.outcomes.search.SearchOutcome.TheVariants.{Tour as Found}
 use Rattle.tk_engines.specs.declared.fault.Fault.{Fault}
 use Rattle.tk_engines.specs.declared.fault.Fault.TheVariants.{Initial, NoMemory, NotForType, Write}
@@ -128,6 +128,7 @@ IsFound p Watched problem initial (Found found) =
     (problem.routing ≡ None) × IsTourFound p Watched problem initial found
 IsFound p Watched problem initial (Routes found) =
     IsSomeAnd problem.routing (λ r. AreRoutesFound p (instance_in problem r) found) × Watched []
+IsFound p Watched problem initial (Between found) = ⊥
 
 -- the task of a search with these parameters, whose events satisfy Watched
 abbrev pub search_task : ParamsAre → (List Event → Type 0) → Task (Option (List ℕ)) SearchOutcome (Unit {0})
@@ -151,14 +152,18 @@ FindsOutcome problems initials watchers params (problem, initial, watch) (proble
 abbrev pub found_text : SearchOutcome → List ℕ
 found_text (Found found) = tour_text found.name.items (unsigned_abs found.solved.length) found.solved.cities.items
 found_text (Routes found) = solution_text (lists_of found.routes.items) (unsigned_abs found.report.after)
+found_text (Between found) = solution_text (lists_of found.solved.routes.items) (unsigned_abs found.solved.cost)
 
 -- the text of the tour or of the solution, and the lines on it
 pub record Files : Type 0 where
   pub file : List ℕ
   pub out : List ℕ
 
+abbrev pub files_with : List Key → SearchOutcome → Files
+files_with ignored outcome = record { file = found_text outcome; out = search_lines ignored outcome }
+
 abbrev pub files_of : ParamsAre → SearchOutcome → Files
-files_of p outcome = record { file = found_text outcome; out = search_lines p.ignored outcome }
+files_of p outcome = files_with p.ignored outcome
 
 -- the task of a search whose outcome is written
 abbrev pub solve_task : ParamsAre → (List Event → Type 0) → Task (Option (List ℕ)) (Unit {0}) Files

@@ -1,5 +1,8 @@
-//! The engines of the six subcommands.
+//! The engines of the subcommands.
+pub mod between;
+pub mod between_given;
 pub mod check;
+pub mod info;
 pub mod matrix;
 pub mod near;
 pub mod plot;

@@ -1,4 +1,5 @@
 //! Why an engine stopped.
+use crate::route_fault::RouteFault;
 use thiserror::Error;
 use tk_params::Key;
 use tk_tour::TourFault;
@@ -20,6 +21,9 @@ pub enum Fault {
     /// The initial tour is not a tour of the problem's cities.
     #[error("initial tour: {0}")]
     Initial(TourFault),
+    /// The initial solution has this fault.
+    #[error("initial solution: {0}")]
+    InitialRoutes(RouteFault),
     /// The problem has no routing: it is not a CVRP.
     #[error("not a CVRP")]
     WrongType,

@@ -1,5 +1,6 @@
 pub mod Bounds
 pub mod EachRoute
+pub mod Legs
 pub mod NoMarkup
 pub mod PageLength
 pub mod Paths

@@ -1,6 +1,7 @@
 -- How long the text of a page is at most.
 use Rattle.std.proofs.Common.{ℕ, suc, ◌+◌, ◌-◌, ◌*◌, ◌^◌, ◌≤◌, List, [], ◌∷◌, ◌++◌, Option, Some, None, length, arith}
-use Rattle.std.proofs.Common.{length-append}
+use Rattle.std.proofs.Common.{◌≡◌, ap, length-append, refl}
+use Rattle.std.proofs.lemmas.List.{length-map}
 use Rattle.std.specs.Prelude.{ℤ, pos, negsuc, flat_map, codes, decimal, map, slice_get, ◌==◌}
 use Rattle.std.specs.Fmt.{signed_decimal}
 use Rattle.std.specs.List.{concat, range_with_len}
@@ -12,7 +13,7 @@ use Rattle.tk_writers.proofs.Pieces.NumberLengths.{length_decimal, length_flat_m
 use Rattle.tk_writers.specs.Written.{line, spaced_numbers}
 use Rattle.tk_distance.specs.PlaneOf.{city_place}
 use Rattle.tk_routes.specs.Cvrps.{instance_of}
-use Rattle.tk_routes.specs.Instance.{customer_count}
+use Rattle.tk_routes.specs.Instance.{Instance, customer_count, node_of}
 use Rattle.tk_routes.proofs.Served.{AreServedOnce-short}
 use Rattle.tk_picture.specs.declared.frame.Frame.{Frame}
 use Rattle.tk_picture.specs.declared.page.parts.Parts.{Parts}
@@ -21,10 +22,10 @@ use Rattle.tk_picture.specs.declared.picture.Form.TheVariants as forms
 use Rattle.tk_picture.specs.declared.picture.Picture.{Picture}
 use Rattle.tk_picture.specs.declared.subject.Subject.{Subject}
 use Rattle.tk_picture.specs.declared.subject.Subject.TheVariants as subjects
-use Rattle.tk_picture.specs.Drawings.{Drawing, Path, caption_of, paths_of}
+use Rattle.tk_picture.specs.Drawings.{Drawing, Path, caption_of, each_filled, paths_of}
 use Rattle.tk_picture.specs.Names.{shown_name}
 use Rattle.tk_picture.specs.PageText.{Row, data_block, city_line, demand_word, depot_word, page_ending, heading}
-use Rattle.tk_picture.specs.PageText.{opening}
+use Rattle.tk_picture.specs.PageText.{legs, legs_block, legs_line, opening, route_legs}
 use Rattle.tk_picture.specs.PageText.{page_text, path_line, row_line, route_row, rows, table, table_caption, table_end}
 use Rattle.tk_picture.specs.PageText.{table_head, table_start, verdict}
 use Rattle.tk_picture.specs.PictureText.{picture_text, spot, title, title_line}
@@ -147,11 +148,59 @@ length_spaced (x ∷ xs) =
     let rest = length_flat_map (λ y. codes " " ++ decimal y) 65 (λ y. omega (arith, length_decimal y)) xs in
     omega (arith, length_decimal x, length-append (decimal x) (flat_map (λ y. codes " " ++ decimal y) xs))
 
-length_path : (p : Path) → length (path_line p) ≤ 500 + length p.cities * 130
+length_path : (p : Path) → length (path_line p) ≤ 800 + length p.cities * 130
 length_path p = omega (arith, length_spaced p.cities, length-append (spaced_numbers p.cities) (10 ∷ []))
 
 length_block : (name lines : List ℕ) → length name ≤ 10 → length (data_block name lines) ≤ 100 + length lines
 length_block name lines short = simp length-append (omega arith)
+
+-- ---- the legs of routes
+
+length_legs : (d : ℕ → ℕ → ℕ) (from : ℕ) (cities : List ℕ) (to : ℕ) →
+    length (legs d from cities to) ≡ suc (length cities)
+length_legs d from [] to = refl
+length_legs d from (city ∷ cities) to = ap suc (length_legs d city cities to)
+
+length_legs_line : (i : Instance) (k : ℕ) (route : List ℕ) →
+    length (legs_line (route_legs i k route)) ≤ 131 + length route * 65
+length_legs_line i k route =
+    omega (
+      arith,
+      length_spaced (route_legs i k route),
+      length_legs i.distance i.depot (map (node_of i.depot) route) i.depot,
+      length-map route (node_of i.depot),
+      length-append (spaced_numbers (route_legs i k route)) (10 ∷ []),
+    )
+
+length_leg_lines : (i : Instance) (k : ℕ) (routes : List (List ℕ)) →
+    length (flat_map legs_line (each_filled (route_legs i) k routes)) ≤ length (concat routes) * 200
+length_leg_lines i k [] = omega arith
+length_leg_lines i k ([] ∷ routes) = length_leg_lines i (k + 1) routes
+length_leg_lines i k ((c ∷ cs) ∷ routes) =
+    omega (
+      arith,
+      length_legs_line i k (c ∷ cs),
+      length_leg_lines i (k + 1) routes,
+      length-append (c ∷ cs) (concat routes),
+      length-append (legs_line (route_legs i k (c ∷ cs)))
+          (flat_map legs_line (each_filled (route_legs i) (k + 1) routes)),
+    )
+
+length_legs_block : (n : ℕ) (s : Subject) → n ≤ CITY_LIMIT → Fits n s →
+    length (legs_block (drawing_of s)) ≤ 20000100
+length_legs_block n subjects.Cities few fits = omega arith
+length_legs_block n (subjects.Tour cities size) few fits = omega arith
+length_legs_block n (subjects.Routes cvrp routes count cost) few fits =
+    let i = instance_of cvrp in
+    let all = map (λ r. r.items) routes.now in
+    let lines = flat_map legs_line (each_filled (route_legs i) 1 all) in
+    omega (
+      arith,
+      length_block (codes "legs") lines (omega arith),
+      length_leg_lines i 1 all,
+      AreServedOnce-short (customer_count i) (concat all) fits.1,
+      fits.0,
+    )
 
 -- ---- the whole
 
@@ -172,7 +221,8 @@ length_page parts f places name s depot demands named few fits lines corners =
     let cities = flat_map city (range_with_len 1 n) in
     let paths = flat_map path_line (paths_of d) in
     let all = length_joined (opening parts name n d) (picture_text f places name d depot ∷ line (codes "</div>")
-    ∷ table d ∷ data_block (codes "cities") cities ∷ data_block (codes "paths") paths ∷ page_ending parts ∷ []) in
+    ∷ table d ∷ data_block (codes "cities") cities ∷ data_block (codes "paths") paths ∷ legs_block d
+    ∷ page_ending parts ∷ []) in
     let p = length_opening parts name n d named in
     let q = length_picture f places name d depot named few lines corners in
     let r = length_table n s few fits in
@@ -182,6 +232,7 @@ length_page parts f places name s depot demands named few fits lines corners =
     let w = length_block (codes "paths") paths (omega arith) in
     let x = each_short path_line length_path (paths_of d) in
     let y = length_ending parts in
+    let z = length_legs_block n s few fits in
     omega arith
 
 -- of a picture in a form

@@ -1,8 +1,8 @@
 -- Routes up to one more, and what is made of them.
 use Rattle.std.proofs.Common.{◌≡◌, ℕ, suc, ◌+◌, ◌<◌, List, [], ◌∷◌, ◌++◌, length, take, get_or, refl, sym, ap, ◌∙◌}
 use Rattle.std.proofs.Common.{arith, append-nil, length-take, true, false}
-use Rattle.std.specs.Prelude.{map, flat_map, ◌==◌, Option, Some, slice_get, unwrap_or}
-use Rattle.std.proofs.lemmas.List.{take_more, map-append, length-map}
+use Rattle.std.specs.Prelude.{map, flat_map, ◌==◌, ◌-◌, ◌≤◌, Option, Some, slice_get, slice_index, unwrap_or}
+use Rattle.std.proofs.lemmas.List.{get_or-map, take_more, map-append, length-map}
 use Rattle.std.proofs.lemmas.Grind.{flat_map-append}
 use Rattle.std.proofs.lemmas.Bool.{eqb-true}
 use Rattle.std.proofs.lemmas.Option.{none-some}
@@ -48,6 +48,22 @@ module _ {X : Type 0} (f : ℕ → List ℕ → X) where
       flat_map put (each_filled f k (route ∷ [])) ≡ put (f k route)
   filled_some put k [] some = cc
   filled_some put k (c ∷ route) some = append-nil _
+
+-- the last stop of a route, and the first, after the depot x
+pub last_stop : (f : ℕ → ℕ) (x : ℕ) (route : List ℕ) → 1 ≤ length route
+    → slice_index (x ∷ map f route) (length (x ∷ map f route) - 1) ≡ f (slice_index route (length route - 1))
+last_stop f x [] some = absurd (omega (arith, some))
+last_stop f x (c ∷ route) some =
+    let count : length (x ∷ map f (c ∷ route)) - 1 ≡ suc (length route) = simp length-map (omega arith) in
+    let before : length (c ∷ route) - 1 ≡ length route = omega arith in
+    ap (λ (k : ℕ). slice_index (x ∷ map f (c ∷ route)) k) count
+    ∙ get_or-map f (c ∷ route) (length route) 0 0 (omega arith)
+    ∙ ap (λ (k : ℕ). f (slice_index (c ∷ route) k)) (sym before)
+
+pub first_stop : (f : ℕ → ℕ) (x : ℕ) (route : List ℕ) → 1 ≤ length route
+    → slice_index (x ∷ map f route) 1 ≡ f (slice_index route 0)
+first_stop f x [] some = absurd (omega (arith, some))
+first_stop f x (c ∷ route) some = refl
 
 -- the number of a route over its first customer
 pub marked : (spot : ℕ → List ℕ) (i : Instance) (k : ℕ) (route : List ℕ) (first : ℕ) → slice_get route 0 ≡ Some first

@@ -24,11 +24,15 @@ use Rattle.tk_picture.specs.declared.subject.Subject.{Subject}
 use Rattle.tk_picture.specs.declared.subject.Subject.TheVariants as subjects
 use Rattle.tk_picture.specs.Frames.{across, down, drawn_from_left, drawn_from_top, view_height}
 use Rattle.tk_picture.specs.Names.{is_plain, shown_byte, shown_name}
-use Rattle.tk_picture.specs.PictureText.{title, spot, line_end, line_start, closed_line, dot, dots, line_width}
+use Rattle.tk_picture.specs.PictureText.{at_depot, between_customers, by_size, closed_line, closed_start, corners}
+use Rattle.tk_picture.specs.PictureText.{dot, dots, halo_start, line_end, line_width, lines, open_line, open_start}
+use Rattle.tk_picture.specs.PictureText.{pale_start, part_line, parted_lines, route_lines, spot, title}
 use Rattle.tk_picture.specs.PictureText.{city_style, city_dots, depot_mark, has_dots, mark, number_mark, number_size}
 use Rattle.tk_picture.specs.PictureText.{numbers_start, route_numbers, view_line, title_line, heading_line, group_line}
 use Rattle.tk_picture.specs.PictureText.{head, picture_text, tail}
 use Rattle.tk_picture.specs.Pictures.{Fits, drawing_of}
+use Rattle.tk_picture.specs.declared.part.Part.{Part}
+use Rattle.tk_picture.specs.declared.part.Part.TheVariants as parts
 use Rattle.tk_distance.specs.PlaneOf.{city_place}
 use Rattle.tk_problem.specs.declared.point.Point.{Point}
 
@@ -145,12 +149,15 @@ length_colour k =
     either_short (nat_lt k 8) _ (rgb (colour_walk (place_on_walk k))) 200 (omega (arith, first))
     (length_rgb (colour_walk (place_on_walk k)))
 
-line_start_parts : (a : List ℕ) → length a ≤ 200 →
-    length (line (codes "<polygon stroke=\"" ++ a ++ codes "\" points=\"")) ≤ 300
-line_start_parts a short = simp length-append (omega arith)
+start_parts : (shape a : List ℕ) → length shape ≤ 20 → length a ≤ 200 →
+    length (line (shape ++ a ++ codes "\" points=\"")) ≤ 300
+start_parts shape a named short = simp length-append (omega arith)
 
-length_line_start : (k : ℕ) → length (line_start k) ≤ 300
-length_line_start k = line_start_parts (colour k) (length_colour k)
+length_closed_start : (k : ℕ) → length (closed_start k) ≤ 300
+length_closed_start k = start_parts (codes "<polygon stroke=\"") (colour k) (omega arith) (length_colour k)
+
+length_open_start : (k : ℕ) → length (open_start k) ≤ 300
+length_open_start k = start_parts (codes "<polyline stroke=\"") (colour k) (omega arith) (length_colour k)
 
 -- how many corners closed lines have
 abbrev pub corners_of : List Path → ℕ
@@ -158,9 +165,9 @@ corners_of [] = 0
 corners_of (p ∷ paths) = length p.cities + corners_of paths
 
 -- what is put for each line
-pub each_short : (put : Path → List ℕ) → ((p : Path) → length (put p) ≤ 500 + length p.cities * 130)
+pub each_short : (put : Path → List ℕ) → ((p : Path) → length (put p) ≤ 800 + length p.cities * 130)
     → (paths : List Path)
-    → length (flat_map put paths) ≤ length paths * 500 + corners_of paths * 130
+    → length (flat_map put paths) ≤ length paths * 800 + corners_of paths * 130
 each_short put short [] = omega arith
 each_short put short (p ∷ paths) =
     omega (arith, short p, each_short put short paths, length-append (put p) (flat_map put paths))
@@ -189,19 +196,69 @@ module _ (spot : ℕ → List ℕ) (short : (c : ℕ) → length (spot c) ≤ 12
   corner : (c : ℕ) → length (line (spot c)) ≤ 130
   corner c = omega (arith, short c, length-append (spot c) (10 ∷ []))
 
+  length_corners : (cities : List ℕ) → length (corners spot cities) ≤ length cities * 130
+  length_corners cities = length_flat_map (λ c. line (spot c)) 130 corner cities
+
+  line_parts : (start cities : List ℕ) → length start ≤ 300 →
+      length (start ++ corners spot cities ++ line_end) ≤ 304 + length cities * 130
+  line_parts start cities short_start =
+      omega (arith, length_corners cities, length_joined start (corners spot cities ∷ line_end ∷ []))
+
   length_closed_line : (path : Path) → length (closed_line spot path) ≤ 304 + length path.cities * 130
-  length_closed_line path =
-      let corners = flat_map (λ c. line (spot c)) path.cities in
+  length_closed_line path = line_parts (closed_start path.number) path.cities (length_closed_start path.number)
+
+  length_open_line : (path : Path) → length (open_line spot path) ≤ 304 + length path.cities * 130
+  length_open_line path = line_parts (open_start path.number) path.cities (length_open_start path.number)
+
+  length_part_line : (part : Part) (path : Path) → length (part_line part spot path) ≤ 800 + length path.cities * 130
+  length_part_line parts.Whole path = omega (arith, length_closed_line path)
+  length_part_line parts.Customers path =
+      omega (arith, length_open_line (between_customers path), length-drop 1 path.cities)
+  length_part_line parts.Depot path = omega (arith, length_open_line (at_depot path))
+
+  length_part_lines : (part : Part) (paths : List Path) →
+      length (flat_map (part_line part spot) paths) ≤ length paths * 800 + corners_of paths * 130
+  length_part_lines part paths = each_short (part_line part spot) (length_part_line part) paths
+
+  pale_parts : (width : List ℕ) → length width ≤ 2 →
+      length (line (codes "<g class=\"depot-lines\" stroke-opacity=\".5\" stroke-width=\"" ++ width ++ codes "\">"))
+      ≤ 100
+  pale_parts width few = simp length-append (omega arith)
+
+  length_pale_start : (n : ℕ) → length (pale_start n) ≤ 100
+  length_pale_start n =
+      pale_parts (by_size n (codes "8") (codes "3"))
+      (either_short (nat_lt n 2000) (codes "8") (codes "3") 2 (omega arith) (omega arith))
+
+  length_parted : (n : ℕ) (paths : List Path) →
+      length (parted_lines spot n paths) ≤ 200 + length paths * 1600 + corners_of paths * 260
+  length_parted n paths =
+      let at = flat_map (part_line parts.Depot spot) paths in
+      let between = flat_map (part_line parts.Customers spot) paths in
       omega (
         arith,
-        length_line_start path.number,
-        length_flat_map (λ c. line (spot c)) 130 corner path.cities,
-        length_joined (line_start path.number) (corners ∷ line_end ∷ []),
+        length_pale_start n,
+        length_part_lines parts.Depot paths,
+        length_part_lines parts.Customers paths,
+        length_joined (pale_start n) (at ∷ line (codes "</g>") ∷ between ∷ []),
       )
 
+  length_route_lines : (n count : ℕ) (paths : List Path) →
+      length (route_lines spot n count paths) ≤ 200 + length paths * 1600 + corners_of paths * 260
+  length_route_lines n count paths =
+      either_short (nat_lt count 20) (flat_map (part_line parts.Whole spot) paths) (parted_lines spot n paths)
+      (200 + length paths * 1600 + corners_of paths * 260)
+      (omega (arith, length_part_lines parts.Whole paths)) (length_parted n paths)
+
   length_closed_lines : (paths : List Path) →
-      length (flat_map (closed_line spot) paths) ≤ length paths * 500 + corners_of paths * 130
+      length (flat_map (closed_line spot) paths) ≤ length paths * 800 + corners_of paths * 130
   length_closed_lines paths = each_short (closed_line spot) (λ p. omega (arith, length_closed_line p)) paths
+
+  length_lines : (n : ℕ) (d : Drawing) →
+      length (lines spot n d) ≤ 200 + length (paths_of d) * 1600 + corners_of (paths_of d) * 260
+  length_lines n Cities = omega arith
+  length_lines n (ATour cities size) = omega (arith, length_closed_lines (paths_of (ATour cities size)))
+  length_lines n (SomeRoutes i routes count cost) = length_route_lines n count (route_paths i 1 routes)
 
   length_dot : (c : ℕ) → length (dot spot c) ≤ 133
   length_dot c = omega (arith, short c, length_joined (codes "M") (spot c ∷ codes "h0" ∷ (10 ∷ []) ∷ []))
@@ -224,12 +281,12 @@ module _ (spot : ℕ → List ℕ) (short : (c : ℕ) → length (spot c) ≤ 12
   length_depot_mark None = omega arith
   length_depot_mark (Some depot) = let a = short depot in simp length-append (omega arith)
 
-  length_number_mark : (path : Path) → length (number_mark spot path) ≤ 500 + length path.cities * 130
+  length_number_mark : (path : Path) → length (number_mark spot path) ≤ 800 + length path.cities * 130
   length_number_mark path =
       omega (arith, length_mark path.number (spot (slice_index path.cities 1)) (short (slice_index path.cities 1)))
 
   length_number_marks : (paths : List Path) →
-      length (flat_map (number_mark spot) paths) ≤ length paths * 500 + corners_of paths * 130
+      length (flat_map (number_mark spot) paths) ≤ length paths * 800 + corners_of paths * 130
   length_number_marks paths = each_short (number_mark spot) length_number_mark paths
 
   numbers_start_parts : (size : List ℕ) → length size ≤ 3
@@ -243,8 +300,18 @@ module _ (spot : ℕ → List ℕ) (short : (c : ℕ) → length (spot c) ≤ 12
       numbers_start_parts (number_size n)
       (either_short (nat_lt n 2000) (codes "140") (codes "60") 3 (omega arith) (omega arith))
 
+  halo_parts : (width : List ℕ) → length width ≤ 2 →
+      length (line (codes "<g class=\"halo\" aria-hidden=\"true\" stroke=\"white\" stroke-width=\"" ++ width
+      ++ codes "\">")) ≤ 100
+  halo_parts width few = simp length-append (omega arith)
+
+  length_halo_start : (n : ℕ) → length (halo_start n) ≤ 100
+  length_halo_start n =
+      halo_parts (by_size n (codes "40") (codes "17"))
+      (either_short (nat_lt n 2000) (codes "40") (codes "17") 2 (omega arith) (omega arith))
+
   length_route_numbers : (n : ℕ) (d : Drawing) →
-      length (route_numbers spot n d) ≤ 300 + length (paths_of d) * 500 + corners_of (paths_of d) * 130
+      length (route_numbers spot n d) ≤ 400 + length (paths_of d) * 1600 + corners_of (paths_of d) * 260
   length_route_numbers n Cities = omega arith
   length_route_numbers n (ATour cities size) = omega arith
   length_route_numbers n (SomeRoutes i routes count cost) =
@@ -252,8 +319,10 @@ module _ (spot : ℕ → List ℕ) (short : (c : ℕ) → length (spot c) ≤ 12
       omega (
         arith,
         length_numbers_start n,
+        length_halo_start n,
         length_number_marks (route_paths i 1 routes),
-        length_joined (numbers_start n) (marks ∷ line (codes "</g>") ∷ []),
+        length_joined (numbers_start n) (halo_start n ∷ marks ∷ line (codes "</g>") ∷ marks ∷ line (codes "</g>")
+            ∷ []),
       )
 
 -- ---- the whole
@@ -317,17 +386,17 @@ paths_few n (subjects.Routes cvrp routes count cost) fits =
 pub length_picture : (f : Frame) (places : List Point) (name : List ℕ) (d : Drawing) (depot : Option ℕ)
     → length name ≤ 1024 → length places ≤ CITY_LIMIT
     → length (paths_of d) ≤ 100001 → corners_of (paths_of d) ≤ 200000 →
-    length (picture_text f places name d depot) ≤ 400000000
-length_picture f places name d depot named few lines corners =
+    length (picture_text f places name d depot) ≤ 500000000
+length_picture f places name d depot named few few_lines few_corners =
     let at = spot f places in
     let short = length_spot f places in
     let n = length places in
     let end : length tail ≤ 20 = omega arith in
-    let all = length_joined (head f (title name n d) n) (flat_map (closed_line at) (paths_of d) ∷ city_dots at n d
-    ∷ depot_mark at depot ∷ route_numbers at n d ∷ tail ∷ []) in
+    let all = length_joined (head f (title name n d) n) (lines at n d ∷ city_dots at n d ∷ route_numbers at n d
+    ∷ depot_mark at depot ∷ tail ∷ []) in
     let h = length_head f (title name n d) n in
     let t = length_title name n d named in
-    let l = length_closed_lines at short (paths_of d) in
+    let l = length_lines at short n d in
     let p = length_city_dots at short n d in
     let m = length_depot_mark at short depot in
     let r = length_route_numbers at short n d in

@@ -3,15 +3,16 @@
 --     city_line f places demands depot c      a city
 --     path_line path      the cities of a closed line
 --     route_row i k route      the table row of a route
+--     legs_line words      the number of a route, and the lengths of its legs
 --     page_text parts f places name drawing depot demands      the whole text
-use Rattle.std.specs.Prelude.{ℕ, ◌-◌, ◌*◌, ◌/◌, ◌==◌, List, [], ◌++◌, Option, Some, None, length, slice_get, flat_map}
-use Rattle.std.specs.Prelude.{codes, decimal, if◌then◌else◌}
+use Rattle.std.specs.Prelude.{ℕ, ◌-◌, ◌*◌, ◌/◌, ◌==◌, List, [], ◌∷◌, ◌++◌, Option, Some, None, length, slice_get}
+use Rattle.std.specs.Prelude.{map, flat_map, codes, decimal, if◌then◌else◌}
 use Rattle.std.specs.List.{range_with_len}
 use Rattle.std.specs.Fmt.{signed_decimal}
 use Rattle.tk_problem.specs.declared.point.Point.{Point}
 use Rattle.tk_writers.specs.Written.{line, spaced_numbers}
 use Rattle.tk_distance.specs.PlaneOf.{city_place}
-use Rattle.tk_routes.specs.Instance.{Instance}
+use Rattle.tk_routes.specs.Instance.{Instance, node_of}
 use Rattle.tk_routes.specs.Routes.{route_length, route_load}
 use Rattle.tk_picture.specs.declared.frame.Frame.{Frame}
 use Rattle.tk_picture.specs.declared.page.parts.Parts.{Parts}
@@ -113,6 +114,37 @@ abbrev pub data_block : List ℕ → List ℕ → List ℕ
 data_block name lines =
     line (codes "<script type=\"text/plain\" id=\"" ++ name ++ codes "\">") ++ lines ++ line (codes "</script>")
 
+-- ---- the legs of routes
+
+-- the lengths of the legs from a city through others to the last
+abbrev pub legs : (ℕ → ℕ → ℕ) → ℕ → List ℕ → ℕ → List ℕ
+legs distance from [] to = distance from to ∷ []
+legs distance from (city ∷ cities) to = distance from city ∷ legs distance city cities to
+
+-- the lengths of the legs of a route, from the depot to the first customer, and so on, and back to the depot
+abbrev pub legs_of : Instance → List ℕ → List ℕ
+legs_of i route = legs i.distance i.depot (map (node_of i.depot) route) i.depot
+
+-- a length after a space
+abbrev pub leg_word : ℕ → List ℕ
+leg_word length = codes " " ++ decimal length
+
+abbrev pub leg_words : Instance → List ℕ → List ℕ
+leg_words i route = flat_map leg_word (legs_of i route)
+
+-- the number of a route and its legs
+abbrev pub route_legs : Instance → ℕ → List ℕ → List ℕ
+route_legs i k route = k ∷ legs_of i route
+
+abbrev pub legs_line : List ℕ → List ℕ
+legs_line words = line (spaced_numbers words)
+
+-- only for routes
+abbrev pub legs_block : Drawing → List ℕ
+legs_block (SomeRoutes i routes count cost) =
+    data_block (codes "legs") (flat_map legs_line (each_filled (route_legs i) 1 routes))
+legs_block _ = []
+
 -- ---- the whole
 
 abbrev pub page_ending : Parts → List ℕ
@@ -125,4 +157,5 @@ page_text parts f places name drawing depot demands =
     ++ table drawing
     ++ data_block (codes "cities") (flat_map (city_line f places demands depot) (range_with_len 1 (length places)))
     ++ data_block (codes "paths") (flat_map path_line (paths_of drawing))
+    ++ legs_block drawing
     ++ page_ending parts

@@ -1,17 +1,21 @@
 -- The text of a picture (SVG 1.1). Within its group, a unit is a ten-thousandth of the frame's longer side.
 --     spot f places city      the position of a city
 --     closed_line spot path      a closed line through cities, in the colour of its number
+--     part_line part spot path      that line, or a part of it
+--     lines spot n drawing      all lines; the lines to and from the depot are pale if there are many routes
 --     dots spot style cities      cities as points
 --     route_numbers spot n drawing      the number of each route, over its first customer
 --     picture_text f places name drawing depot      the whole text
-use Rattle.std.specs.Prelude.{ℕ, Bool, true, nat_lt, List, [], ◌++◌, Option, Some, None, length, slice_index, flat_map}
-use Rattle.std.specs.Prelude.{codes, decimal, if◌then◌else◌}
+use Rattle.std.specs.Prelude.{ℕ, ◌-◌, Bool, true, nat_lt, List, [], ◌∷◌, ◌++◌, Option, Some, None, length, drop}
+use Rattle.std.specs.Prelude.{slice_index, flat_map, codes, decimal, if◌then◌else◌}
 use Rattle.std.specs.List.{range_with_len}
 use Rattle.tk_problem.specs.declared.point.Point.{Point}
 use Rattle.tk_writers.specs.Written.{line}
 use Rattle.tk_distance.specs.PlaneOf.{city_place}
 use Rattle.tk_picture.specs.Colours.{colour}
 use Rattle.tk_picture.specs.Drawings.{Cities, Drawing, Path, SomeRoutes, caption_of, paths_of, route_paths}
+use Rattle.tk_picture.specs.declared.part.Part.{Part}
+use Rattle.tk_picture.specs.declared.part.Part.TheVariants as parts
 use Rattle.tk_picture.specs.declared.frame.Frame.{Frame}
 use Rattle.tk_picture.specs.Frames.{across, down, drawn_from_left, drawn_from_top, view_height}
 use Rattle.tk_picture.specs.Names.{shown_name}
@@ -34,14 +38,64 @@ by_size n few many = if is_small n then few else many
 
 -- ---- lines
 
-abbrev pub line_start : ℕ → List ℕ
-line_start k = line (codes "<polygon stroke=\"" ++ colour k ++ codes "\" points=\"")
+-- the beginning of a closed line, or of an open one, in the colour of a number
+abbrev pub closed_start : ℕ → List ℕ
+closed_start k = line (codes "<polygon stroke=\"" ++ colour k ++ codes "\" points=\"")
+
+abbrev pub open_start : ℕ → List ℕ
+open_start k = line (codes "<polyline stroke=\"" ++ colour k ++ codes "\" points=\"")
 
 abbrev pub line_end : List ℕ
 line_end = line (codes "\"/>")
 
+abbrev pub corners : (ℕ → List ℕ) → List ℕ → List ℕ
+corners spot cities = flat_map (λ c. line (spot c)) cities
+
 abbrev pub closed_line : (ℕ → List ℕ) → Path → List ℕ
-closed_line spot path = line_start path.number ++ flat_map (λ c. line (spot c)) path.cities ++ line_end
+closed_line spot path = closed_start path.number ++ corners spot path.cities ++ line_end
+
+abbrev pub open_line : (ℕ → List ℕ) → Path → List ℕ
+open_line spot path = open_start path.number ++ corners spot path.cities ++ line_end
+
+-- the path of a route without the depot, with which it begins
+abbrev pub between_customers : Path → Path
+between_customers path = record { number = path.number; cities = drop 1 path.cities }
+
+-- from the last customer to the depot, and to the first customer
+abbrev pub at_depot : Path → Path
+at_depot path =
+    record {
+      number = path.number;
+      cities = slice_index path.cities (length path.cities - 1) ∷ slice_index path.cities 0
+          ∷ slice_index path.cities 1 ∷ [];
+    }
+
+-- a route's closed line, or a part of it
+abbrev pub part_line : Part → (ℕ → List ℕ) → Path → List ℕ
+part_line parts.Whole spot path = closed_line spot path
+part_line parts.Customers spot path = open_line spot (between_customers path)
+part_line parts.Depot spot path = open_line spot (at_depot path)
+
+-- the beginning of a group of thinner, paler lines
+abbrev pub pale_start : ℕ → List ℕ
+pale_start n =
+    line (codes "<g class=\"depot-lines\" stroke-opacity=\".5\" stroke-width=\""
+    ++ by_size n (codes "8") (codes "3") ++ codes "\">")
+
+-- the lines to and from the depot, and then those between customers
+abbrev pub parted_lines : (ℕ → List ℕ) → ℕ → List Path → List ℕ
+parted_lines spot n paths =
+    pale_start n ++ flat_map (part_line parts.Depot spot) paths ++ line (codes "</g>")
+    ++ flat_map (part_line parts.Customers spot) paths
+
+-- the lines of this many routes: from 20 on, those to and from the depot are thinner and paler
+abbrev pub route_lines : (ℕ → List ℕ) → ℕ → ℕ → List Path → List ℕ
+route_lines spot n count paths =
+    if nat_lt count 20 then flat_map (part_line parts.Whole spot) paths else parted_lines spot n paths
+
+abbrev pub lines : (ℕ → List ℕ) → ℕ → Drawing → List ℕ
+lines spot n (SomeRoutes i routes count cost) = route_lines spot n count (route_paths i 1 routes)
+lines spot n drawing = flat_map (closed_line spot) (paths_of drawing)
 
 -- ---- points
 
@@ -91,9 +145,17 @@ numbers_start n =
     line (codes "<g font-family=\"sans-serif\" font-weight=\"bold\" text-anchor=\"middle\" font-size=\""
     ++ number_size n ++ codes "\">")
 
+-- the beginning of a group of numbers with a white outline
+abbrev pub halo_start : ℕ → List ℕ
+halo_start n =
+    line (codes "<g class=\"halo\" aria-hidden=\"true\" stroke=\"white\" stroke-width=\""
+    ++ by_size n (codes "40") (codes "17") ++ codes "\">")
+
+-- the white outlines of all numbers, and then the numbers
 abbrev pub route_numbers : (ℕ → List ℕ) → ℕ → Drawing → List ℕ
 route_numbers spot n (SomeRoutes i routes count cost) =
-    numbers_start n ++ flat_map (number_mark spot) (route_paths i 1 routes) ++ line (codes "</g>")
+    numbers_start n ++ halo_start n ++ flat_map (number_mark spot) (route_paths i 1 routes) ++ line (codes "</g>")
+    ++ flat_map (number_mark spot) (route_paths i 1 routes) ++ line (codes "</g>")
 route_numbers spot n _ = []
 
 -- ---- the whole
@@ -126,12 +188,12 @@ head f title n =
 abbrev pub tail : List ℕ
 tail = line (codes "</g>") ++ line (codes "</svg>")
 
--- a title, closed lines through cities, the cities, the depot, and the numbers of routes
+-- a title, lines through cities, the cities, the numbers of routes, and the depot
 abbrev pub picture_text : Frame → List Point → List ℕ → Drawing → Option ℕ → List ℕ
 picture_text f places name drawing depot =
     head f (title name (length places) drawing) (length places)
-    ++ flat_map (closed_line (spot f places)) (paths_of drawing)
+    ++ lines (spot f places) (length places) drawing
     ++ city_dots (spot f places) (length places) drawing
-    ++ depot_mark (spot f places) depot
     ++ route_numbers (spot f places) (length places) drawing
+    ++ depot_mark (spot f places) depot
     ++ tail

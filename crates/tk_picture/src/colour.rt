@@ -6,10 +6,10 @@ ghost use Rattle.tk_picture.specs.Colours.{colour, opposite, rgb, there, colour_
 use tk_writers::{Pen, Sink};
 
 /// Number of steps of the walk along six edges of the box of colours.
-const STEPS: u64 = 1_160;
+const STEPS: u64 = 1_020;
 
 /// Number of steps from the colour of each line to that of the next.
-const STEP: u64 = 443;
+const STEP: u64 = 389;
 
 /// A colour: its amounts of red, green and blue.
 #[derive(Clone, Copy)]
@@ -24,9 +24,9 @@ fn there(steps: u64) -> Colour
     ensures { result ≡ there steps }
 {
     Colour {
-        red: 190_u64.saturating_sub(steps.saturating_sub(140)),
-        green: steps.min(140),
-        blue: steps.saturating_sub(330),
+        red: 150_u64.saturating_sub(steps.saturating_sub(110)),
+        green: steps.min(110),
+        blue: steps.saturating_sub(260),
     }
 }
 
@@ -35,8 +35,8 @@ fn opposite(colour: Colour) -> Colour
     ensures { result ≡ opposite colour }
 {
     Colour {
-        red: 190_u64.saturating_sub(colour.red),
-        green: 140_u64.saturating_sub(colour.green),
+        red: 150_u64.saturating_sub(colour.red),
+        green: 110_u64.saturating_sub(colour.green),
         blue: 250_u64.saturating_sub(colour.blue),
     }
 }
@@ -71,11 +71,11 @@ pub(crate) fn put_colour<W: Sink>(pen: &mut Pen<'_, W>, number: u64)
 {
     match number {
         1 => pen.put(b"#0072B2"),
-        2 => pen.put(b"#D55E00"),
-        3 => pen.put(b"#009E73"),
-        4 => pen.put(b"#CC79A7"),
-        5 => pen.put(b"#E69F00"),
-        6 => pen.put(b"#56B4E9"),
+        2 => pen.put(b"#C35050"),
+        3 => pen.put(b"#786E00"),
+        4 => pen.put(b"#78234B"),
+        5 => pen.put(b"#050ABE"),
+        6 => pen.put(b"#004100"),
         7 => pen.put(b"#000000"),
         _ => put_rgb(pen, walk(number % STEPS * STEP % STEPS)),
     }

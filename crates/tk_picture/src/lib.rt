@@ -10,7 +10,9 @@ mod laws;
 mod name;
 mod numbers;
 mod page;
+mod part;
 mod picture;
+mod route_lines;
 mod subject;
 mod view;
 

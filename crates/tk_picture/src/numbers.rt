@@ -5,7 +5,7 @@ ghost use Rattle.tk_distance.specs.Cities.{IsCity};
 ghost use Rattle.tk_routes.specs.Cvrps.{instance_of};
 ghost use Rattle.tk_picture.specs.Drawings.{route_paths};
 ghost use Rattle.tk_picture.specs.DrawnRoutes.{AreCustomers, RoutesFit};
-ghost use Rattle.tk_picture.specs.PictureText.{mark, number_mark, numbers_start};
+ghost use Rattle.tk_picture.specs.PictureText.{halo_start, mark, number_mark, numbers_start};
 ghost use Rattle.tk_picture.specs.Views.{city_count, spot_in};
 
 use crate::colour::put_colour;
@@ -22,6 +22,15 @@ pub(crate) fn put_numbers_start<W: Sink>(pen: &mut Pen<'_, W>, cities: u32)
         b"<g font-family=\"sans-serif\" font-weight=\"bold\" text-anchor=\"middle\" font-size=\"",
     );
     pen.put(by_size(cities, b"140", b"60"));
+    pen.put(b"\">\n");
+}
+
+/// Writes the beginning of a group of numbers with a white outline.
+pub(crate) fn put_halo_start<W: Sink>(pen: &mut Pen<'_, W>, cities: u32)
+    ensures { Puts W.Sink pen.old pen.new (halo_start cities) }
+{
+    pen.put(b"<g class=\"halo\" aria-hidden=\"true\" stroke=\"white\" stroke-width=\"");
+    pen.put(by_size(cities, b"40", b"17"));
     pen.put(b"\">\n");
 }
 

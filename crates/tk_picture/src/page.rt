@@ -7,6 +7,7 @@ ghost use Rattle.tk_picture.specs.Pictures.{Fits, drawing_of, page_of};
 ghost use Rattle.tk_picture.specs.Views.{city_count};
 
 mod cities;
+mod legs;
 pub(crate) mod parts;
 mod paths;
 mod table;
@@ -14,6 +15,7 @@ mod table;
 use crate::caption::put_caption;
 use crate::name::put_name;
 use crate::page::cities::put_cities;
+use crate::page::legs::put_leg_lines;
 use crate::page::parts::Parts;
 use crate::page::paths::put_paths;
 use crate::page::table::put_table;
@@ -76,5 +78,6 @@ pub(crate) fn put_page<W: Sink>(pen: &mut Pen<'_, W>, picture: &Picture<'_>, par
     put_table(pen, picture.view.size(), picture.subject);
     put_cities(pen, picture);
     put_paths(pen, picture.view.size(), picture.subject);
+    put_leg_lines(pen, picture.view.size(), picture.subject);
     put_ending(pen, parts);
 }

@@ -1,23 +1,23 @@
 //! Writes a picture of a problem.
-ghost use Rattle.std.specs.Prelude.{◌≤◌, ◌++◌, IfSome, OnErr, codes, decimal, flat_map, length};
+ghost use Rattle.std.specs.Prelude.{◌≤◌, ◌++◌, IfSome, OnErr, codes, decimal, length};
 ghost use Rattle.tk_writers.specs.Pens.{Puts};
 ghost use Rattle.tk_writers.specs.Puts.{Writes};
 ghost use Rattle.tk_writers.specs.Sinks.{IsBroken};
 ghost use Rattle.tk_distance.specs.Cities.{IsCity};
-ghost use Rattle.tk_picture.specs.Drawings.{paths_of};
 ghost use Rattle.tk_picture.specs.Frames.{drawn_from_left, drawn_from_top};
-ghost use Rattle.tk_picture.specs.PictureText.{closed_line, group_line, head, heading_line};
+ghost use Rattle.tk_picture.specs.PictureText.{group_line, head, heading_line, lines};
 ghost use Rattle.tk_picture.specs.PictureText.{route_numbers, title, title_line, view_line};
 ghost use Rattle.tk_picture.specs.Pictures.{Fits, drawing_of, text_in, text_of};
 ghost use Rattle.tk_picture.specs.Views.{city_count, spot_in};
 
 use crate::caption::put_title;
-use crate::closed_lines::{put_routes, put_tour};
+use crate::closed_lines::put_tour;
 use crate::dots::{by_size, put_city_dots, put_depot};
 use crate::frame::Frame;
-use crate::numbers::{put_numbers, put_numbers_start};
+use crate::numbers::{put_halo_start, put_numbers, put_numbers_start};
 use crate::page::parts::Parts;
 use crate::page::put_page;
+use crate::route_lines::put_route_lines;
 use crate::subject::Subject;
 use crate::view::View;
 use tk_writers::{Pen, Sink, WriteFault};
@@ -107,16 +107,21 @@ fn put_head<W: Sink>(pen: &mut Pen<'_, W>, picture: &Picture<'_>)
     put_group_line(pen, &picture.view.frame, picture.view.size());
 }
 
-/// Writes the closed lines.
+/// Writes the lines through cities.
 fn put_lines<W: Sink>(pen: &mut Pen<'_, W>, view: &View<'_>, subject: Subject<'_>)
     requires { Fits (city_count view.now) subject }
     ensures { Puts W.Sink pen.old pen.new
-        (flat_map (closed_line (spot_in view.now)) (paths_of (drawing_of subject.entry))) }
+        (lines (spot_in view.now) (city_count view.now) (drawing_of subject.entry)) }
 {
     match subject {
         Subject::Cities => {}
         Subject::Tour { cities, .. } => put_tour(pen, view, cities),
-        Subject::Routes { cvrp, routes, .. } => put_routes(pen, view, &cvrp, routes),
+        Subject::Routes {
+            cvrp,
+            routes,
+            count,
+            ..
+        } => put_route_lines(pen, view, &cvrp, routes, count),
     }
 }
 
@@ -128,6 +133,9 @@ fn put_route_numbers<W: Sink>(pen: &mut Pen<'_, W>, view: &View<'_>, subject: Su
 {
     if let Subject::Routes { cvrp, routes, .. } = subject {
         put_numbers_start(pen, view.size());
+        put_halo_start(pen, view.size());
+        put_numbers(pen, view, &cvrp, routes);
+        pen.put(b"</g>\n");
         put_numbers(pen, view, &cvrp, routes);
         pen.put(b"</g>\n");
     }
@@ -142,8 +150,8 @@ pub(crate) fn put_picture<W: Sink>(pen: &mut Pen<'_, W>, picture: &Picture<'_>)
     put_head(pen, picture);
     put_lines(pen, &picture.view, picture.subject);
     put_city_dots(pen, &picture.view, picture.subject);
-    put_depot(pen, &picture.view, picture.depot);
     put_route_numbers(pen, &picture.view, picture.subject);
+    put_depot(pen, &picture.view, picture.depot);
     pen.put(b"</g>\n</svg>\n");
 }
 

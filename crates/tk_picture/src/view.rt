@@ -35,13 +35,15 @@ impl<'a> View<'a> {
 }
 
 impl View<'_> {
-    ghost use Rattle.std.specs.Prelude.{◌≡◌, All, flat_map};
+    ghost use Rattle.std.specs.Prelude.{◌≡◌, All, map};
     ghost use Rattle.tk_writers.specs.Pens.{Puts};
     ghost use Rattle.tk_writers.specs.Written.{line};
     ghost use Rattle.tk_distance.specs.Cities.{IsCity};
     ghost use Rattle.tk_routes.specs.Cvrps.{instance_of};
+    ghost use Rattle.tk_routes.specs.Instance.{node_of};
     ghost use Rattle.tk_routes.specs.Routes.{route_nodes};
     ghost use Rattle.tk_picture.specs.DrawnRoutes.{AreCustomers};
+    ghost use Rattle.tk_picture.specs.PictureText.{corners};
     ghost use Rattle.tk_picture.specs.Views.{city_count, spot_in};
 
     /// The number of cities.
@@ -64,7 +66,7 @@ impl View<'_> {
     }
 
     /// Writes the position of a city, on a line of its own.
-    fn put_corner<W: Sink>(&self, pen: &mut Pen<'_, W>, city: u32)
+    pub(crate) fn put_corner<W: Sink>(&self, pen: &mut Pen<'_, W>, city: u32)
         requires { IsCity (city_count self.now) city }
         ensures { Puts W.Sink pen.old pen.new (line (spot_in self.now city)) }
     {
@@ -75,10 +77,27 @@ impl View<'_> {
     /// Writes the positions of cities, one per line.
     pub(crate) fn put_corners<W: Sink>(&self, pen: &mut Pen<'_, W>, cities: &[u32])
         requires { All (IsCity (city_count self.now)) cities.now }
-        ensures { Puts W.Sink pen.old pen.new (flat_map (λ c. line (spot_in self.now c)) cities.now) }
+        ensures { Puts W.Sink pen.old pen.new (corners (spot_in self.now) cities.now) }
     {
         for city in cities {
             self.put_corner(pen, *city);
+        }
+    }
+
+    /// Writes the positions of the customers of a route, one per line.
+    pub(crate) fn put_customers<W: Sink>(
+        &self,
+        pen: &mut Pen<'_, W>,
+        cvrp: &Cvrp<'_>,
+        route: &[u32],
+    )
+        requires size { (instance_of cvrp.now).size ≡ city_count self.now }
+        requires known { AreCustomers cvrp.now route.now }
+        ensures { Puts W.Sink pen.old pen.new
+            (corners (spot_in self.now) (map (node_of (instance_of cvrp.now).depot) route.now)) }
+    {
+        for customer in route {
+            self.put_corner(pen, cvrp.node(*customer));
         }
     }
 
@@ -87,11 +106,9 @@ impl View<'_> {
         requires size { (instance_of cvrp.now).size ≡ city_count self.now }
         requires known { AreCustomers cvrp.now route.now }
         ensures { Puts W.Sink pen.old pen.new
-            (flat_map (λ c. line (spot_in self.now c)) (route_nodes (instance_of cvrp.now) route.now)) }
+            (corners (spot_in self.now) (route_nodes (instance_of cvrp.now) route.now)) }
     {
         self.put_corner(pen, cvrp.depot());
-        for customer in route {
-            self.put_corner(pen, cvrp.node(*customer));
-        }
+        self.put_customers(pen, cvrp, route);
     }
 }

@@ -44,6 +44,7 @@ pub record IsReadOff (i : Instance) (begun : List (List ℕ)) (kept : Outcome) (
       ≡ tour_length (ring_distance i (copies_in i kept.ring.items)) kept.ring.items
   pub cost : solved.cost ≡ kept.cost
   pub start : solved.start ≡ kept.start
+  pub start_count : solved.start_routes ≡ length begun
   pub runs : solved.runs.items ≡ kept.reports.items
 
 module _ (task : RouteTask) (start : List (List ℕ)) (Watched : List Event → Type 0) (kept : Outcome)
@@ -105,6 +106,7 @@ module _ (task : RouteTask) (start : List (List ℕ)) (Watched : List Event → 
     read = off.read;
     cost = cost_is;
     start_cost = off.start ∙ kept_of.start ∙ ap pos off.ring_cost;
+    start_count = off.start_count;
     watched = made.watched;
     shown = shown_valid;
     bounded = each_report (IsBoundedRun task start made.near) (λ r is.

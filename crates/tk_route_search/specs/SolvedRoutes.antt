@@ -39,6 +39,7 @@ pub record AreSolved (task : RouteTask) (Watched : List Event → Type 0) (solve
   pub read : AreRoutesOf (customer_count task.instance) winner (lists_of solved.routes.items)
   pub cost : solved.cost ≡ pos (routes_cost task.instance (lists_of solved.routes.items))
   pub start_cost : solved.start ≡ pos (routes_cost task.instance start)
+  pub start_count : solved.start_routes ≡ length start
   pub watched : Watched (shown_of runs)
   pub shown : All (AreShownRoutes task.instance) (shown_of runs)
   pub bounded : All (IsBoundedRun task start near) solved.runs.items

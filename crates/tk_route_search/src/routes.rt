@@ -33,6 +33,8 @@ pub struct SolvedRoutes {
     pub cost: i64,
     /// The cost of the routes that each run began with.
     pub start: i64,
+    /// The number of these routes.
+    pub start_routes: u32,
     /// The length of the near lists that savings routes were made with; `None` for given routes.
     pub candidates: Option<u32>,
     /// A report of each run. With one customer there are no runs.
@@ -176,6 +178,7 @@ fn search_from<W: RouteWatch>(
         routes: routes_of(alloc, cvrp, &outcome.ring)?,
         cost: outcome.cost,
         start: outcome.start,
+        start_routes: start.len() as u32,
         candidates,
         runs: outcome.reports,
     })

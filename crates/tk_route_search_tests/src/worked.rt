@@ -157,6 +157,7 @@ fn given_routes(rt: HostRuntime) -> Result<(), Fail> {
     let start = RouteStart::Routes(&text.routes);
     let (solved, counts) = search(rt.alloc(), &cvrp, start, 3, false)?;
     assert!(rt; are(&solved, &[&[1, 2], &[3, 4]], [44, 84], None));
+    assert!(rt; solved.start_routes == 2);
     assert!(rt;
         counts
             == Counts {

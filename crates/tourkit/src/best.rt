@@ -1,27 +1,27 @@
-//! The best tour of a long search so far, in a file next to the one that the search will write.
+//! The best result of a long search so far, in a file next to the one that the search will write.
 use crate::best_place::BestPlace;
+use crate::found::{Copied, Found};
 use crate::search::Search;
 use crate::written::Kept;
 use std::alloc::AllocError;
 use std::time::{Clock, Duration};
-use tk_solve::Progress;
-use tk_writers::{ToWrite, write_tour};
+use tk_writers::ToWrite;
 
-/// The tour is first saved after this many seconds, and then at most once in this many seconds.
+/// The result is first saved after this many seconds, and then at most once in this many seconds.
 const PAUSE: u64 = 5;
 
-/// The best tour so far, and the place where it is saved.
+/// The best tour or the best routes so far, and the place where they are saved.
 #[derive(Drop)]
 pub struct BestFile<'a> {
     rt: &'a HostRuntime,
-    /// Where it is saved; `None` if it is not saved.
+    /// Where the result is saved; `None` if it is not saved.
     place: Option<BestPlace<'a>>,
     /// The name of the problem.
     problem: Vec<u8>,
-    /// The shortest of the best tours of completed runs, and its length.
-    ended: Vec<u32>,
+    /// The shortest of the best results of completed runs, and its length or cost.
+    ended: Option<Copied>,
     ended_length: i64,
-    /// The length of the tour that is saved.
+    /// The length or the cost of the result that is saved.
     saved: i64,
     /// The earliest time at which the next one is saved.
     next: Duration,
@@ -41,7 +41,7 @@ impl<'a> BestFile<'a> {
             rt,
             place: BestPlace::of(rt, search, kept)?,
             problem: Vec::new(rt.alloc()),
-            ended: Vec::new(rt.alloc()),
+            ended: None,
             ended_length: i64::MAX,
             saved: i64::MAX,
             next: pause_from(rt),
@@ -55,43 +55,53 @@ impl<'a> BestFile<'a> {
         }
     }
 
-    /// Saves the best tour so far if it is shorter than the one that is saved and the pause has passed. At the end of a
-    /// run, it is kept in memory or, if one has been saved before, saved.
-    pub fn trial(&mut self, progress: &Progress, best: &[u32]) {
+    /// Whether results are saved.
+    pub fn is_kept(&self) -> bool {
+        self.place.is_some()
+    }
+
+    /// Saves nothing more, because memory has run out.
+    pub fn give_up(&mut self) {
+        self.place = None;
+    }
+
+    /// Takes note of the best result of a run so far, with its length or cost, after a trial or at the end of the run.
+    /// Saves the best result of all runs so far if it is shorter than the one that is saved and the pause has passed.
+    /// At the end of a run, it is kept in memory or, if one has been saved before, saved.
+    pub fn show(&mut self, length: i64, found: Found<'_>, ends: bool) {
         if self.place.is_none() {
             return;
         }
-        let ends = progress.trial == progress.trials;
-        if ends && progress.best < self.ended_length {
-            self.keep(progress.best, best);
+        if ends && length < self.ended_length {
+            self.keep(length, found);
         }
-        if self.saved > self.ended_length.min(progress.best) {
-            self.save_in_time(progress.best, best, ends);
+        if self.saved > self.ended_length.min(length) {
+            self.save_in_time(length, found, ends);
         }
     }
 
-    /// Saves a tour if the pause has passed or, at the end of a run, if one has been saved before.
-    fn save_in_time(&mut self, length: i64, cities: &[u32], ends: bool) {
+    /// Saves a result if the pause has passed or, at the end of a run, if one has been saved before.
+    fn save_in_time(&mut self, length: i64, found: Found<'_>, ends: bool) {
         let Ok(now) = self.rt.monotonic() else {
             return;
         };
         if now >= self.next || ends && self.saved < i64::MAX {
             self.next = now.saturating_add(Duration::from_secs(PAUSE));
-            self.save(length, cities);
+            self.save(length, found);
         }
     }
 
-    /// Keeps the best tour of a completed run in memory. If memory runs out, nothing more is saved.
-    fn keep(&mut self, length: i64, cities: &[u32]) {
-        self.ended.clear();
-        if self.ended.extend_from_slice(cities).is_err() {
-            self.place = None;
+    /// Keeps the best result of a completed run in memory. If memory runs out, nothing more is saved.
+    fn keep(&mut self, length: i64, found: Found<'_>) {
+        match found.copied(self.rt.alloc()) {
+            Ok(copied) => self.ended = Some(copied),
+            Err(_) => self.give_up(),
         }
         self.ended_length = length;
     }
 
-    /// Saves the tour or, if that is shorter, the one that is kept in memory.
-    fn save(&mut self, length: i64, cities: &[u32]) {
+    /// Saves the result or, if that is shorter, the one that is kept in memory.
+    fn save(&mut self, length: i64, found: Found<'_>) {
         let shortest = self.ended_length.min(length);
         let Some(place) = &mut self.place else {
             return;
@@ -99,12 +109,11 @@ impl<'a> BestFile<'a> {
         if !place.takes(shortest) {
             return;
         }
-        let saved = if self.ended_length < length {
-            put_tour(self.rt, place, &self.problem, shortest, &self.ended)
-        } else {
-            put_tour(self.rt, place, &self.problem, shortest, cities)
+        let shorter = match &self.ended {
+            Some(ended) if self.ended_length < length => ended.found(),
+            _ => found,
         };
-        if saved {
+        if put(self.rt, place, &self.problem, shortest, shorter) {
             self.saved = shortest;
         }
     }
@@ -129,19 +138,19 @@ impl<'a> BestFile<'a> {
     }
 }
 
-/// Saves a tour. Returns whether that succeeded.
-fn put_tour(
+/// Saves a result. Returns whether that succeeded.
+fn put(
     rt: &HostRuntime,
     place: &mut BestPlace<'_>,
     problem: &[u8],
     length: i64,
-    cities: &[u32],
+    found: Found<'_>,
 ) -> bool {
     let mut text = ToWrite::new(Vec::new(rt.alloc()));
-    length >= 0 && write_tour(&mut text, problem, length, cities).is_ok() && place.put(&text.inner)
+    length >= 0 && found.write(&mut text, problem, length).is_ok() && place.put(&text.inner)
 }
 
-/// The earliest time at which a tour is saved, from now.
+/// The earliest time at which a result is saved, from now.
 fn pause_from(rt: &HostRuntime) -> Duration {
     match rt.monotonic() {
         Ok(now) => now.saturating_add(Duration::from_secs(PAUSE)),

@@ -29,8 +29,8 @@ pub struct BestPlace<'a> {
 
 impl<'a> BestPlace<'a> {
     /// The place of a search; `None` if it has no output file, if that file or the one at the place is not a regular
-    /// file, or if the one at the place is the problem file or the parameter file. It may be the initial tour file,
-    /// which only a shorter tour replaces. A file that is already there is reported in a note.
+    /// file, or if the one at the place is the problem file or the parameter file. It may be the file of the initial
+    /// tour or solution, which only a shorter result replaces. A file that is already there is reported in a note.
     ///
     /// # Errors
     /// `AllocError` if memory runs out.
@@ -65,8 +65,8 @@ impl<'a> BestPlace<'a> {
         &self.name
     }
 
-    /// Reports the file that is already here. A tour from which this search starts is not reported, nor is a file that
-    /// could not be judged although the problem can be read again.
+    /// Reports the file that is already here. A tour or routes from which this search starts are not reported, nor is a
+    /// file that could not be judged although the problem can be read again.
     fn note_other(&mut self, search: &Search<'_, 'a>) {
         let Some(found) = self.found() else {
             return;
@@ -75,7 +75,9 @@ impl<'a> BestPlace<'a> {
             Judged::Tour(length) if !self.stays => {
                 report::earlier_tour(self.rt, &self.name, length, search);
             }
-            Judged::Routes(cost) => report::earlier_routes(self.rt, &self.name, cost),
+            Judged::Routes(cost) if !self.stays => {
+                report::earlier_routes(self.rt, &self.name, cost, search);
+            }
             Judged::Neither => report::other_best(self.rt, &self.name),
             Judged::Unknown if self.problem.is_none() => report::other_best(self.rt, &self.name),
             _ => {}

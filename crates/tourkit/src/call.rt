@@ -4,29 +4,38 @@ use crate::commands::check::check_command;
 use crate::commands::checksol::checksol_command;
 use crate::commands::completions::completions_command;
 use crate::commands::explain::explain_command;
+use crate::commands::info::info_command;
 use crate::commands::matrix::matrix_command;
 use crate::commands::near::near_command;
 use crate::commands::plot::plot_command;
 use crate::commands::solve::solve_command;
+use crate::refusal::Refusal;
 use crate::report;
 use crate::words::words_of_call;
 use std::process::ExitCode;
 use tk_command_line::{Asked, parse};
 
-/// Parses the arguments of the program, and runs the command that they request.
+/// Parses the arguments of the program, runs the command that they request, and reports why it stops if it does.
 pub fn run_call(rt: &HostRuntime) -> ExitCode {
-    let words = match words_of_call(rt) {
-        Ok(words) => words,
-        Err(status) => return status,
-    };
-    match parse(rt, words.as_slice()) {
-        Ok(asked) => run(rt, asked),
-        Err(refusal) => report::refused(rt, refusal),
+    match words_of_call(rt) {
+        Ok(words) => answer(rt, words.as_slice()),
+        Err(refusal) => report::tell(rt, &refusal),
+    }
+}
+
+/// Runs the command that the arguments request.
+fn answer<'a>(rt: &'a HostRuntime, words: &'a [String]) -> ExitCode {
+    match parse(rt, words) {
+        Ok(asked) => {
+            let json = asked.is_json();
+            report::end(rt, run(rt, asked), json)
+        }
+        Err(reason) => report::tell(rt, &Refusal::from(reason)),
     }
 }
 
 /// Runs a subcommand, or prints completions.
-fn run(rt: &HostRuntime, asked: Asked<'_>) -> ExitCode {
+fn run<'a>(rt: &'a HostRuntime, asked: Asked<'a>) -> Result<ExitCode, Refusal<'a>> {
     match asked {
         Asked::Check {
             problem,
@@ -40,8 +49,17 @@ fn run(rt: &HostRuntime, asked: Asked<'_>) -> ExitCode {
         } => checksol_command(rt, problem, solution, json),
         Asked::Completions { shell } => completions_command(rt, shell),
         Asked::Explain { what, line } => explain_command(rt, what, line),
-        Asked::Matrix { problem, format } => matrix_command(rt, problem, format),
-        Asked::Near { problem, length } => near_command(rt, problem, length),
+        Asked::Info { problem, json } => info_command(rt, problem, json),
+        Asked::Matrix {
+            problem,
+            format,
+            json,
+        } => matrix_command(rt, problem, format, json),
+        Asked::Near {
+            problem,
+            length,
+            json,
+        } => near_command(rt, problem, length, json),
         Asked::Plot {
             problem,
             claim,

@@ -1,10 +1,9 @@
 //! The input files of a command, one of which may be standard input.
 use crate::file_id::{FileId, id_of};
-use crate::report;
+use crate::refusal::Refusal;
 use std::fs::{self, File};
 use std::io::{self, Read, Stdin};
 use std::os::fd::AsFd;
-use std::process::ExitCode;
 use tk_command_line::STANDARD;
 
 /// The path of standard input.
@@ -45,37 +44,41 @@ pub fn path_of(name: &str) -> &str {
     }
 }
 
-/// Opens an input file, or reports that it cannot be opened, such as standard input if that is closed.
+/// Opens an input file.
 ///
 /// # Errors
-/// The exit status, after a message that names the file.
-pub fn open(rt: &HostRuntime, name: &str) -> Result<Input, ExitCode> {
+/// `Refusal::Unopened`, also for standard input if that is closed.
+pub fn open<'a>(rt: &HostRuntime, name: &'a str) -> Result<Input, Refusal<'a>> {
     if name == STANDARD {
         return match rt.stdin().as_fd().try_clone_to_owned() {
             Ok(_) => Ok(Input::Standard(rt.stdin())),
-            Err(_) => Err(report::unopened(rt, name)),
+            Err(_) => Err(Refusal::Unopened(name)),
         };
     }
     open_file(rt, name)
 }
 
-/// Opens an input file, or reports that it cannot be opened. `-` is a name like any other.
+/// Opens an input file. `-` is a name like any other.
 ///
 /// # Errors
-/// The exit status, after a message that names the file.
-pub fn open_file(rt: &HostRuntime, name: &str) -> Result<Input, ExitCode> {
+/// `Refusal::Unopened`
+pub fn open_file<'a>(rt: &HostRuntime, name: &'a str) -> Result<Input, Refusal<'a>> {
     match File::open(rt, name) {
         Ok(file) => Ok(Input::File(file)),
-        Err(_) => Err(report::unopened(rt, name)),
+        Err(_) => Err(Refusal::Unopened(name)),
     }
 }
 
-/// Opens two input files in this order, or reports the first that cannot be opened. If the second is standard input, it
-/// comes first: if standard input is closed, the other file would get its number.
+/// Opens two input files in this order. If the second is standard input, it comes first: if standard input is closed,
+/// the other file would get its number.
 ///
 /// # Errors
-/// The exit status, after a message that names the file that could not be opened.
-pub fn open_two(rt: &HostRuntime, first: &str, second: &str) -> Result<(Input, Input), ExitCode> {
+/// `Refusal::Unopened` for the first that cannot be opened.
+pub fn open_two<'a>(
+    rt: &HostRuntime,
+    first: &'a str,
+    second: &'a str,
+) -> Result<(Input, Input), Refusal<'a>> {
     if second != STANDARD {
         return open_in_order(rt, first, second);
     }
@@ -84,7 +87,11 @@ pub fn open_two(rt: &HostRuntime, first: &str, second: &str) -> Result<(Input, I
 }
 
 /// Opens two input files, one after the other.
-fn open_in_order(rt: &HostRuntime, first: &str, second: &str) -> Result<(Input, Input), ExitCode> {
+fn open_in_order<'a>(
+    rt: &HostRuntime,
+    first: &'a str,
+    second: &'a str,
+) -> Result<(Input, Input), Refusal<'a>> {
     let first = open(rt, first)?;
     Ok((first, open(rt, second)?))
 }

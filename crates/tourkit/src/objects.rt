@@ -6,9 +6,9 @@ use tk_engines::{FoundRoutes, FoundTour, Key, RouteVerdict, RunReport, TourOutco
 /// The verdict on a tour or a solution: whether it has no fault, and its values or those of its fault.
 #[derive(Drop, Serialize)]
 pub struct Judgement<T> {
-    valid: bool,
+    pub valid: bool,
     #[serde(flatten)]
-    values: T,
+    pub values: T,
 }
 
 /// The values of a tour.
@@ -64,22 +64,6 @@ pub fn route_object(verdict: RouteVerdict) -> Result<RouteValues, ListFault> {
     }
 }
 
-/// An object for a list without a fault.
-pub fn valid<T>(values: T) -> Judgement<T> {
-    Judgement {
-        valid: true,
-        values,
-    }
-}
-
-/// An object for a list with a fault.
-pub fn invalid(fault: ListFault) -> Judgement<ListFault> {
-    Judgement {
-        valid: false,
-        values: fault,
-    }
-}
-
 /// A run of a search for a tour.
 #[derive(Drop, Serialize)]
 pub struct RunObject {
@@ -118,7 +102,7 @@ impl TourSearchObject {
     }
 }
 
-/// The outcome of a search for routes.
+/// The outcome of the improvement of savings routes, each by itself.
 #[derive(Drop, Serialize)]
 pub struct RouteSearchObject {
     ignored: Vec<&'static str>,
@@ -129,10 +113,12 @@ pub struct RouteSearchObject {
     tests: u64,
     swaps: u64,
     best: i64,
+    #[serde(skip_serializing_if = "Option::is_none")]
+    vehicles: Option<u32>,
 }
 
 impl RouteSearchObject {
-    /// An object for what was found, and the keys that were not used.
+    /// An object for what was found, the keys that were not used, and the number of vehicles if that is stated.
     ///
     /// # Errors
     /// `AllocError` if memory runs out.
@@ -140,6 +126,7 @@ impl RouteSearchObject {
         alloc: Global,
         ignored: &[Key],
         found: &FoundRoutes,
+        vehicles: Option<u32>,
     ) -> Result<RouteSearchObject, AllocError> {
         let report = &found.report;
         Ok(RouteSearchObject {
@@ -151,12 +138,16 @@ impl RouteSearchObject {
             tests: report.tests,
             swaps: report.swaps,
             best: report.after,
+            vehicles,
         })
     }
 }
 
 /// The names of keys.
-fn words_of(alloc: Global, keys: &[Key]) -> Result<Vec<&'static str>, AllocError> {
+///
+/// # Errors
+/// `AllocError` if memory runs out.
+pub fn words_of(alloc: Global, keys: &[Key]) -> Result<Vec<&'static str>, AllocError> {
     let mut words = Vec::new(alloc);
     for key in keys {
         words.push(key.word())?;

@@ -1,11 +1,10 @@
 //! Writes the output file of `solve`.
 use crate::file_id::{FileId, id_of};
 use crate::part::{Part, Unsaved, hindered, replace};
-use crate::report;
+use crate::refusal::Refusal;
 use std::fs::{self, File, Metadata};
 use std::io::{self, ErrorKind, Seek, SeekFrom, Write};
 use std::path::{Path, PathBuf};
-use std::process::ExitCode;
 
 /// Maximum number of links that are followed from a name to a file that does not exist yet.
 const LINKS: u32 = 40;
@@ -29,9 +28,9 @@ enum Target {
 /// missing target of a link, it creates and removes a temporary file in the same directory.
 ///
 /// # Errors
-/// The exit status, after a message.
-pub fn find_place(rt: &HostRuntime, name: &str) -> Result<(), ExitCode> {
-    try_place(rt, name).map_err(|unsaved| report_unsaved(rt, name, unsaved))
+/// Why it cannot be saved.
+pub fn find_place<'a>(rt: &HostRuntime, name: &'a str) -> Result<(), Refusal<'a>> {
+    try_place(rt, name).map_err(|unsaved| refusal_of(name, unsaved))
 }
 
 /// Checks whether a text can be saved under a name.
@@ -118,9 +117,9 @@ fn named_by_link(rt: &HostRuntime, link: &str) -> Result<PathBuf, Unsaved> {
 /// directly.
 ///
 /// # Errors
-/// The exit status, after a message.
-pub fn save(rt: &HostRuntime, name: &str, text: &[u8]) -> Result<(), ExitCode> {
-    try_save(rt, name, text).map_err(|unsaved| report_unsaved(rt, name, unsaved))
+/// Why it was not saved.
+pub fn save<'a>(rt: &HostRuntime, name: &'a str, text: &[u8]) -> Result<(), Refusal<'a>> {
+    try_save(rt, name, text).map_err(|unsaved| refusal_of(name, unsaved))
 }
 
 /// Writes a text to what a name leads to.
@@ -133,12 +132,12 @@ fn try_save(rt: &HostRuntime, name: &str, text: &[u8]) -> Result<(), Unsaved> {
     }
 }
 
-/// Reports why a text was not or cannot be saved, and returns the exit status.
-fn report_unsaved(rt: &HostRuntime, name: &str, unsaved: Unsaved) -> ExitCode {
+/// The refusal if a text was not or cannot be saved under a name.
+fn refusal_of(name: &str, unsaved: Unsaved) -> Refusal<'_> {
     match unsaved {
-        Unsaved::Unwritten => report::write_fault(rt),
-        Unsaved::NoMemory => report::no_memory(rt),
-        Unsaved::NoOther | Unsaved::Unopened => report::unopened(rt, name),
+        Unsaved::Unwritten => Refusal::Unwritten,
+        Unsaved::NoMemory => Refusal::NoMemory,
+        Unsaved::NoOther | Unsaved::Unopened => Refusal::Unopened(name),
     }
 }
 

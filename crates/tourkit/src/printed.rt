@@ -1,10 +1,10 @@
-//! Prints results on standard output, as lines or as JSON.
-use crate::report;
+//! Prints results on standard output as JSON.
+use crate::objects::{Judgement, ListFault};
 use serde::Serialize;
 use serde_json::to_string;
 use std::alloc::AllocError;
+use std::fmt::Display;
 use std::io::Write;
-use std::process::ExitCode;
 use tk_writers::WriteFault;
 
 /// Why a result was not printed.
@@ -28,16 +28,6 @@ impl From<AllocError> for Unprinted {
     }
 }
 
-impl Unprinted {
-    /// Reports the reason, and returns the exit status.
-    pub fn report(self, rt: &HostRuntime) -> ExitCode {
-        match self {
-            Unprinted::Unwritten => report::write_fault(rt),
-            Unprinted::NoMemory => report::no_memory(rt),
-        }
-    }
-}
-
 /// Prints a value as a JSON object, on a line of its own.
 ///
 /// # Errors
@@ -47,16 +37,48 @@ pub fn print_json<T: Serialize>(rt: &HostRuntime, value: &T) -> Result<(), Unpri
         return Err(Unprinted::NoMemory);
     };
     text.push_str("\n")?;
+    print_text(rt, &text)
+}
+
+/// Prints a value on a line of its own.
+///
+/// # Errors
+/// Why it was not printed.
+pub fn print_line<T: Display>(rt: &HostRuntime, value: &T) -> Result<(), Unprinted> {
+    let text = format!(in rt.alloc(); "{value}\n")?;
+    print_text(rt, &text)
+}
+
+/// Prints a text.
+fn print_text(rt: &HostRuntime, text: &str) -> Result<(), Unprinted> {
     match rt.stdout().write_all(text.as_bytes()) {
         Ok(()) => Ok(()),
         Err(_) => Err(Unprinted::Unwritten),
     }
 }
 
-/// The exit status after a result was printed; if it was not, that of the failure, after a message.
-pub fn end(rt: &HostRuntime, printed: Result<(), Unprinted>, status: ExitCode) -> ExitCode {
-    match printed {
-        Ok(()) => status,
-        Err(reason) => reason.report(rt),
+/// Prints the verdict on a list as a JSON object: that it is valid, with its values, or its fault.
+///
+/// # Errors
+/// Why it was not printed.
+pub fn print_judged<T: Serialize + Drop>(
+    rt: &HostRuntime,
+    judged: Result<T, ListFault>,
+) -> Result<(), Unprinted> {
+    match judged {
+        Ok(values) => print_json(
+            rt,
+            &Judgement {
+                valid: true,
+                values,
+            },
+        ),
+        Err(fault) => print_json(
+            rt,
+            &Judgement {
+                valid: false,
+                values: fault,
+            },
+        ),
     }
 }

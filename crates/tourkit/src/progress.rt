@@ -1,10 +1,48 @@
 //! The status line with the progress of a search, on standard error if that is a terminal.
 use std::io::IsTerminal;
 use std::time::{Clock, Duration};
-use tk_solve::Progress;
+use tk_engines::{Progress, RouteProgress};
 
 /// Minimum time between two updates of the line, in milliseconds.
 const PAUSE: u64 = 100;
+
+/// What the line shows of a search.
+#[derive(Clone, Copy)]
+pub struct Stage {
+    run: u32,
+    runs: u32,
+    trial: u32,
+    trials: u32,
+    /// The name of `length`: that of a tour, or the cost of routes.
+    measure: &'static str,
+    length: i64,
+}
+
+impl Stage {
+    /// A stage of a search for a tour.
+    pub fn of_tour(progress: &Progress) -> Stage {
+        Stage {
+            run: progress.run,
+            runs: progress.runs,
+            trial: progress.trial,
+            trials: progress.trials,
+            measure: "length",
+            length: progress.length,
+        }
+    }
+
+    /// A stage of a search for routes.
+    pub fn of_routes(progress: &RouteProgress) -> Stage {
+        Stage {
+            run: progress.run,
+            runs: progress.runs,
+            trial: progress.trial,
+            trials: progress.trials,
+            measure: "cost",
+            length: progress.cost,
+        }
+    }
+}
 
 /// The status line. If standard error is not a terminal, nothing is written.
 #[derive(Drop)]
@@ -12,6 +50,8 @@ pub struct ProgressLine<'a> {
     rt: &'a HostRuntime,
     shown: bool,
     next: Duration,
+    /// The number of runs, once a stage has been shown.
+    runs: u32,
 }
 
 impl<'a> ProgressLine<'a> {
@@ -21,21 +61,22 @@ impl<'a> ProgressLine<'a> {
             rt,
             shown: rt.stderr().is_terminal(),
             next: Duration::ZERO,
+            runs: 0,
         }
     }
 
     /// Writes the line. A terminal cuts it at its right edge.
-    fn show(&self, progress: &Progress) {
-        let Progress {
+    fn show(&self, stage: &Stage) {
+        let Stage {
             run,
             runs,
             trial,
             trials,
+            measure,
             length,
-            ..
-        } = progress;
+        } = stage;
         let _ = eprint!(self.rt;
-            "\r\x1b[?7lrun {run} of {runs}, trial {trial} of {trials}, length {length}\x1b[K\x1b[?7h"
+            "\r\x1b[?7lrun {run} of {runs}, trial {trial} of {trials}, {measure} {length}\x1b[K\x1b[?7h"
         );
     }
 
@@ -47,11 +88,12 @@ impl<'a> ProgressLine<'a> {
     }
 
     /// Updates the line after a trial, at most ten times a second. After the last trial of the last run, erases it.
-    pub fn trial(&mut self, progress: &Progress) {
+    pub fn trial(&mut self, stage: &Stage) {
         if !self.shown {
             return;
         }
-        if progress.run == progress.runs && progress.trial == progress.trials {
+        self.runs = stage.runs;
+        if stage.run == stage.runs && stage.trial == stage.trials {
             return self.clear();
         }
         let Ok(now) = self.rt.monotonic() else {
@@ -59,7 +101,14 @@ impl<'a> ProgressLine<'a> {
         };
         if now >= self.next {
             self.next = now.saturating_add(Duration::from_millis(PAUSE));
-            self.show(progress);
+            self.show(stage);
+        }
+    }
+
+    /// Erases the line if this was the last run. A run can end before its last trial.
+    pub fn end_run(&self, run: u32) {
+        if run == self.runs {
+            self.clear();
         }
     }
 }

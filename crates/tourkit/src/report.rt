@@ -1,93 +1,90 @@
-//! Messages on standard error, and exit statuses.
+//! Reports refusals and notes on standard error.
+use crate::message::message_of;
+use crate::printed::print_json;
+use crate::refusal::{Refusal, USAGE};
+use crate::refusal_object::RefusalObject;
 use crate::search::Search;
 use crate::shown::shown_name;
-use std::io::IsTerminal;
+use std::io::{IsTerminal, Write};
 use std::process::ExitCode;
-use tk_command_line::{Refusal, STANDARD};
-use tk_engines::Fault;
-use tk_params::{ParamFault, ParamKind};
-use tk_tour::TourFault;
-use tk_words::{TextFault, TextKind};
+use tk_command_line::STANDARD;
 
-/// Exit status: a check found a fault.
-pub const FOUND: u8 = 1;
+/// The object of the refusal if memory runs out. It needs none.
+const NO_MEMORY: &[u8] = b"{\"refused\":{\"message\":\"out of memory\"}}\n";
 
-/// Exit status: the arguments, a file or a parameter were rejected.
-pub const USAGE: u8 = 2;
-
-/// Exit status: a file could not be opened, read or written, or memory ran out.
-pub const SYSTEM: u8 = 3;
-
-/// Prints a message about a file.
-fn print(rt: &HostRuntime, file: &str, message: &str) {
-    let file = shown_name(rt, file);
-    let _ = eprintln!(rt; "tourkit: {file}: {message}");
+/// Reports why a command stops: in a message on standard error and, if `json` is true, also in an object on standard
+/// output. Returns the exit status.
+fn refuse(rt: &HostRuntime, refusal: &Refusal<'_>, json: bool) -> ExitCode {
+    if json {
+        print_object(rt, refusal);
+    }
+    tell(rt, refusal)
 }
 
-/// Rejects a file or an argument, with a message.
-fn refuse(rt: &HostRuntime, file: &str, message: &str) -> ExitCode {
-    print(rt, file, message);
-    ExitCode::from(USAGE)
-}
-
-/// Rejects a file because of a key or an option, with a message that names both.
-fn refuse_for(rt: &HostRuntime, file: &str, named: &str, message: &str) -> ExitCode {
-    let file = shown_name(rt, file);
-    let _ = eprintln!(rt; "tourkit: {file}: {named} {message}");
-    ExitCode::from(USAGE)
-}
-
-/// The exit status if the arguments make no request, after a message.
-pub fn refused(rt: &HostRuntime, refusal: Refusal) -> ExitCode {
+/// Prints the object of a refusal. Nothing is printed if standard output has failed, or if there is no memory for it.
+fn print_object(rt: &HostRuntime, refusal: &Refusal<'_>) {
     match refusal {
-        Refusal::NoMemory => no_memory(rt),
-        Refusal::Unwritten => write_fault(rt),
-        Refusal::Told(status) => ExitCode::from(status),
+        Refusal::NoRequest(_) | Refusal::Unwritten | Refusal::UnwrittenButKept(_) => {}
+        Refusal::NoMemory => {
+            let _ = rt.stdout().write_all(NO_MEMORY);
+        }
+        _ => {
+            if let Ok(object) = RefusalObject::of(rt, refusal) {
+                let _ = print_json(rt, &object);
+            }
+        }
     }
 }
 
-/// Reports that an argument is not UTF-8.
-pub fn not_text(rt: &HostRuntime) -> ExitCode {
-    let _ = eprintln!(rt; "tourkit: an argument is not UTF-8");
-    ExitCode::from(USAGE)
+/// The exit status of a command. If it stopped, this is reported first.
+pub fn end(rt: &HostRuntime, ended: Result<ExitCode, Refusal<'_>>, json: bool) -> ExitCode {
+    match ended {
+        Ok(status) => status,
+        Err(refusal) => refuse(rt, &refusal, json),
+    }
 }
 
-/// Reports that a file cannot be opened.
-pub fn unopened(rt: &HostRuntime, file: &str) -> ExitCode {
-    print(rt, file, "cannot be opened");
-    ExitCode::from(SYSTEM)
+/// Reports why a command stops in a message on standard error, and on a terminal in a tip. Returns the exit status.
+pub fn tell(rt: &HostRuntime, refusal: &Refusal<'_>) -> ExitCode {
+    if !matches!(refusal, Refusal::NoRequest(_)) {
+        let _ = eprintln!(rt; "tourkit: {}", message_of(rt, refusal));
+        if rt.stderr().is_terminal() {
+            give_tip(rt, refusal);
+        }
+    }
+    ExitCode::from(refusal.status())
 }
 
-/// Reports that a number is neither that of a fault nor the name of a file.
-pub fn no_such_fault(rt: &HostRuntime, what: &str) -> ExitCode {
-    refuse(rt, what, "no such fault number and no such file")
+/// Prints a tip about the fault of a file: `explain`, or the option for a search. Standard input cannot be read again.
+fn give_tip(rt: &HostRuntime, refusal: &Refusal<'_>) {
+    match *refusal {
+        Refusal::ProblemForParameters(file, _) => tip_of_search(rt, file),
+        Refusal::Text(file, _) | Refusal::Parameters(file, _)
+            if refusal.status() == USAGE && file != STANDARD => {
+            let file = shown_name(rt, file);
+            let _ = eprintln!(rt;
+                "tourkit: tip: 'tourkit explain {file}' describes the fault and how to fix it"
+            );
+        }
+        _ => {}
+    }
 }
 
-/// Reports that the output file is the problem file. The message names both by their keys, options or arguments.
-pub fn same_as_problem(rt: &HostRuntime, file: &str, named: &str, problem: &str) -> ExitCode {
-    let file = shown_name(rt, file);
-    let _ = eprintln!(rt; "tourkit: {file}: {named} is the same file as {problem}");
-    ExitCode::from(USAGE)
+/// Prints a tip about a problem file that was read as a parameter file: the option for a search.
+fn tip_of_search(rt: &HostRuntime, file: &str) {
+    let (stem, ending) = output_for(file);
+    let (file, stem) = (shown_name(rt, file), shown_name(rt, stem));
+    let _ = eprintln!(rt;
+        "tourkit: tip: this is a problem file; 'tourkit solve {file} -o {stem}{ending}' searches for a solution"
+    );
 }
 
-/// Reports that the output file is the parameter file.
-pub fn same_as_parameters(rt: &HostRuntime, file: &str, named: &str) -> ExitCode {
-    refuse_for(rt, file, named, "is the parameter file")
-}
-
-/// Reports that search options were given with a parameter file.
-pub fn options_for_parameters(rt: &HostRuntime, file: &str) -> ExitCode {
-    refuse(
-        rt,
-        file,
-        "search options need a problem file, but this is a parameter file",
-    )
-}
-
-/// Reports that an option has an invalid value.
-pub fn option_fault(rt: &HostRuntime, option: &str, kind: ParamKind) -> ExitCode {
-    let _ = eprintln!(rt; "tourkit: {option}: {kind}");
-    ExitCode::from(USAGE)
+/// The name of an output file for a problem: the name of the problem file without its extension, and an extension.
+fn output_for(problem: &str) -> (&str, &'static str) {
+    match problem.strip_suffix(".vrp") {
+        Some(stem) => (stem, ".sol"),
+        None => (problem.strip_suffix(".tsp").unwrap_or(problem), ".tour"),
+    }
 }
 
 /// Notes that a file name is most likely a mistake.
@@ -99,7 +96,7 @@ pub fn note(rt: &HostRuntime, key: &str, name: &str, slip: &str) {
 /// Notes that the file for the best tour so far contains a tour from an earlier search.
 pub fn earlier_tour(rt: &HostRuntime, name: &str, length: i64, search: &Search<'_, '_>) {
     let name = shown_name(rt, name);
-    let initial = if search.by_options {
+    let initial = if search.is_by_options() {
         "--initial-tour "
     } else {
         "INITIAL_TOUR_FILE = "
@@ -110,9 +107,16 @@ pub fn earlier_tour(rt: &HostRuntime, name: &str, length: i64, search: &Search<'
 }
 
 /// Notes that the file for the best result so far contains routes from an earlier search.
-pub fn earlier_routes(rt: &HostRuntime, name: &str, cost: i64) {
+pub fn earlier_routes(rt: &HostRuntime, name: &str, cost: i64, search: &Search<'_, '_>) {
     let name = shown_name(rt, name);
-    let _ = eprintln!(rt; "tourkit: note: {name} has routes of cost {cost} from an earlier search");
+    let initial = "--initial-solution ";
+    let _ = if search.is_between_routes() {
+        eprintln!(rt;
+            "tourkit: note: {name} has routes of cost {cost} from an earlier search; {initial}{name} continues from it"
+        )
+    } else {
+        eprintln!(rt; "tourkit: note: {name} has routes of cost {cost} from an earlier search")
+    };
 }
 
 /// Notes that the file for the best result so far is not known to solve the problem, and is kept.
@@ -121,133 +125,4 @@ pub fn other_best(rt: &HostRuntime, name: &str) {
     let _ = eprintln!(rt;
         "tourkit: note: {name} is not known to solve this problem, so it is kept, and nothing is saved there"
     );
-}
-
-/// Reports why an engine stopped, with the name of this file.
-pub fn stopped(rt: &HostRuntime, file: &str, fault: &Fault) -> ExitCode {
-    match fault {
-        Fault::Problem(fault) | Fault::Tour(fault) | Fault::Solution(fault) => {
-            text_fault(rt, file, fault)
-        }
-        Fault::Initial(fault) => initial_fault(rt, file, fault),
-        Fault::WrongType => refuse(rt, file, "not a CVRP"),
-        Fault::NotForType(key) => not_for_type(rt, file, key.word()),
-        Fault::TooLarge => refuse(rt, file, "too large for a matrix"),
-        Fault::NoPlaces => refuse(rt, file, "no coordinates"),
-        Fault::Write(_) => write_fault(rt),
-        Fault::NoMemory => no_memory(rt),
-    }
-}
-
-/// Reports why an engine stopped, with the name of the second file if its text has the fault, otherwise of the problem
-/// file.
-pub fn stopped_by_claim(
-    rt: &HostRuntime,
-    problem_file: &str,
-    claim_file: &str,
-    fault: &Fault,
-) -> ExitCode {
-    match fault {
-        Fault::Tour(fault) | Fault::Solution(fault) => text_fault(rt, claim_file, fault),
-        fault => stopped(rt, problem_file, fault),
-    }
-}
-
-/// Reports the fault of a text.
-pub fn text_fault(rt: &HostRuntime, file: &str, fault: &TextFault) -> ExitCode {
-    let shown = shown_name(rt, file);
-    let _ = eprintln!(rt; "tourkit: {shown}:{fault}");
-    match fault.kind {
-        TextKind::Read | TextKind::NoMemory => ExitCode::from(SYSTEM),
-        _ => with_explanation(rt, file),
-    }
-}
-
-/// Reports the fault of a parameter file.
-pub fn param_fault(rt: &HostRuntime, file: &str, fault: &ParamFault) -> ExitCode {
-    let shown = shown_name(rt, file);
-    let _ = eprintln!(rt; "tourkit: {shown}:{fault}");
-    match fault.kind {
-        ParamKind::Read | ParamKind::NoMemory => ExitCode::from(SYSTEM),
-        _ => with_explanation(rt, file),
-    }
-}
-
-/// Rejects a file after its fault has been reported, on a terminal with a tip that names `explain`. Standard input
-/// cannot be read again.
-fn with_explanation(rt: &HostRuntime, file: &str) -> ExitCode {
-    if file != STANDARD && rt.stderr().is_terminal() {
-        let file = shown_name(rt, file);
-        let _ = eprintln!(rt;
-            "tourkit: tip: 'tourkit explain {file}' describes the fault and how to fix it"
-        );
-    }
-    ExitCode::from(USAGE)
-}
-
-/// Reports, on a terminal, the fault of a problem file that was read as a parameter file, with a tip that names the
-/// option for a search.
-pub fn problem_for_parameters(rt: &HostRuntime, file: &str, fault: &ParamFault) -> ExitCode {
-    let shown = shown_name(rt, file);
-    let (stem, ending) = output_for(file);
-    let stem = shown_name(rt, stem);
-    let _ = eprintln!(rt; "tourkit: {shown}:{fault}");
-    let _ = eprintln!(rt;
-        "tourkit: tip: this is a problem file; 'tourkit solve {shown} -o {stem}{ending}' searches for a solution"
-    );
-    ExitCode::from(USAGE)
-}
-
-/// The name of an output file for a problem: the name of the problem file without its extension, and an extension.
-fn output_for(problem: &str) -> (&str, &'static str) {
-    match problem.strip_suffix(".vrp") {
-        Some(stem) => (stem, ".sol"),
-        None => (problem.strip_suffix(".tsp").unwrap_or(problem), ".tour"),
-    }
-}
-
-/// Reports that the output could not be written.
-pub fn write_fault(rt: &HostRuntime) -> ExitCode {
-    let _ = eprintln!(rt; "tourkit: write fault");
-    ExitCode::from(SYSTEM)
-}
-
-/// Reports that the output could not be written, and which file contains the result.
-pub fn write_fault_but_kept(rt: &HostRuntime, name: &str) -> ExitCode {
-    let name = shown_name(rt, name);
-    let _ = eprintln!(rt; "tourkit: write fault; the result is in {name}");
-    ExitCode::from(SYSTEM)
-}
-
-/// Reports that memory ran out.
-pub fn no_memory(rt: &HostRuntime) -> ExitCode {
-    let _ = eprintln!(rt; "tourkit: out of memory");
-    ExitCode::from(SYSTEM)
-}
-
-/// Reports the fault of an initial tour.
-fn initial_fault(rt: &HostRuntime, file: &str, fault: &TourFault) -> ExitCode {
-    match fault {
-        TourFault::WrongCount => refuse(rt, file, "initial tour: 1 WrongCount"),
-        TourFault::OutOfRange(place) => refuse_at(rt, file, "initial tour: 2 OutOfRange", *place),
-        TourFault::RepeatedCity(place) => refuse_at(
-            rt,
-            file,
-            "initial tour: 3 RepeatedCity",
-            *place,
-        ),
-        TourFault::NoMemory => no_memory(rt),
-    }
-}
-
-/// Rejects a file, with a message about a position in its tour, counted from 1.
-fn refuse_at(rt: &HostRuntime, file: &str, message: &str, place: u32) -> ExitCode {
-    let file = shown_name(rt, file);
-    let _ = eprintln!(rt; "tourkit: {file}: {message} {place}");
-    ExitCode::from(USAGE)
-}
-
-/// Reports that a key or an option does not apply to the problem's type.
-pub fn not_for_type(rt: &HostRuntime, file: &str, named: &str) -> ExitCode {
-    refuse_for(rt, file, named, "does not fit the problem's type")
 }

@@ -1,7 +1,7 @@
 //! A search that the command line or a parameter file requests: its parameters and its files.
 
 use crate::input::{Input, open, open_file, open_two, path_of};
-use std::process::ExitCode;
+use crate::refusal::Refusal;
 use tk_command_line::SearchOptions;
 use tk_params::{Key, Params};
 
@@ -10,13 +10,13 @@ use tk_params::{Key, Params};
 pub struct Search<'p, 'a> {
     /// Its parameters.
     pub params: &'p Params,
-    /// Whether options request it.
-    pub by_options: bool,
+    /// The options that request it; `None` for a parameter file.
+    pub options: Option<&'p SearchOptions<'a>>,
     /// The parameter file or, with options, the problem file.
     pub file: &'a str,
     /// The problem file.
     pub problem: &'a str,
-    /// The file of the initial tour, if there is one.
+    /// The file of the initial tour or, with options, of the initial solution, if there is one.
     pub initial: Option<&'a str>,
     /// The file for the tour; with options, also for routes.
     pub tour_file: Option<&'a str>,
@@ -29,7 +29,7 @@ impl<'a> Search<'a, 'a> {
     pub fn by_keys(file: &'a str, params: &'a Params) -> Search<'a, 'a> {
         Search {
             params,
-            by_options: false,
+            options: None,
             file,
             problem: params.problem_file(),
             initial: params.initial_tour_file(),
@@ -45,25 +45,40 @@ impl<'p, 'a> Search<'p, 'a> {
     pub fn by_options(
         problem: &'a str,
         params: &'p Params,
-        options: &SearchOptions<'a>,
+        options: &'p SearchOptions<'a>,
     ) -> Search<'p, 'a> {
         Search {
             params,
-            by_options: true,
+            options: Some(options),
             file: problem,
             problem,
-            initial: options.initial_tour,
+            initial: options.initial(),
             tour_file: options.output,
             solution_file: None,
         }
     }
 
-    /// Opens the problem and, if there is one, the initial tour. On the command line, `-` is standard input; in a
-    /// parameter file, it is the name of a file.
+    /// Whether options request the search.
+    pub fn is_by_options(&self) -> bool {
+        self.options.is_some()
+    }
+
+    /// Whether the search of a CVRP is between its routes.
+    pub fn is_between_routes(&self) -> bool {
+        self.options.is_some_and(|options| !options.within_routes)
+    }
+
+    /// The number of vehicles that there are for the routes, if the options state it.
+    pub fn vehicles(&self) -> Option<u32> {
+        self.options.and_then(|options| options.vehicles)
+    }
+
+    /// Opens the problem and, if there is one, the initial tour or solution. `-` is standard input on the command line,
+    /// and the name of a file in a parameter file.
     ///
     /// # Errors
-    /// The exit status, after a message.
-    pub fn open(&self, rt: &HostRuntime) -> Result<(Input, Option<Input>), ExitCode> {
+    /// `Refusal::Unopened` for the first file that cannot be opened.
+    pub fn open(&self, rt: &HostRuntime) -> Result<(Input, Option<Input>), Refusal<'a>> {
         let Some(initial) = self.initial else {
             return Ok((self.open_one(rt, self.problem)?, None));
         };
@@ -71,9 +86,9 @@ impl<'p, 'a> Search<'p, 'a> {
         Ok((problem, Some(initial)))
     }
 
-    /// Opens the problem and the initial tour. On the command line, only one of them can be standard input.
-    fn open_both(&self, rt: &HostRuntime, initial: &str) -> Result<(Input, Input), ExitCode> {
-        if self.by_options {
+    /// Opens the problem and the initial tour or solution. On the command line, only one of them can be standard input.
+    fn open_both(&self, rt: &HostRuntime, initial: &'a str) -> Result<(Input, Input), Refusal<'a>> {
+        if self.is_by_options() {
             return open_two(rt, self.problem, initial);
         }
         let problem = open_file(rt, self.problem)?;
@@ -81,8 +96,8 @@ impl<'p, 'a> Search<'p, 'a> {
     }
 
     /// Opens a file by its name.
-    fn open_one(&self, rt: &HostRuntime, name: &str) -> Result<Input, ExitCode> {
-        if self.by_options {
+    fn open_one(&self, rt: &HostRuntime, name: &'a str) -> Result<Input, Refusal<'a>> {
+        if self.is_by_options() {
             open(rt, name)
         } else {
             open_file(rt, name)
@@ -96,7 +111,7 @@ impl<'p, 'a> Search<'p, 'a> {
 
     /// The path of the problem file.
     pub fn problem_path(&self) -> &'a str {
-        if self.by_options {
+        if self.is_by_options() {
             path_of(self.problem)
         } else {
             self.problem
@@ -117,9 +132,9 @@ impl<'p, 'a> Search<'p, 'a> {
     /// The name of a key in messages: that of the option, if options request the search.
     pub fn named(&self, key: Key) -> &'static str {
         match key {
-            Key::ProblemFile if self.by_options => "PROBLEM",
-            Key::TourFile if self.by_options => "--output",
-            Key::InitialTourFile if self.by_options => "--initial-tour",
+            Key::ProblemFile if self.is_by_options() => "PROBLEM",
+            Key::TourFile if self.is_by_options() => "--output",
+            Key::InitialTourFile if self.is_by_options() => "--initial-tour",
             _ => key.word(),
         }
     }

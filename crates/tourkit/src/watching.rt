@@ -1,20 +1,24 @@
 //! The observer of a search.
 use crate::best::BestFile;
-use crate::progress::ProgressLine;
+use crate::found::{Found, copied_routes};
+use crate::progress::{ProgressLine, Stage};
 use crate::search::Search;
 use crate::written::Kept;
 use std::alloc::AllocError;
-use tk_engines::write_run_line;
+use tk_engines::{RouteProgress, RouteRun, RouteWatch, write_route_run_line, write_run_line};
 use tk_solve::{Progress, RunReport, Watch};
 use tk_writers::ToWrite;
 
-/// Shows the status line on a terminal, prints the lines of runs on standard error, and keeps the best tour in a file.
+/// Shows the status line on a terminal, prints the lines of runs on standard error, and keeps the best result in a
+/// file.
 #[derive(Drop)]
 pub struct SearchWatch<'a> {
     rt: &'a HostRuntime,
     line: ProgressLine<'a>,
     lines: bool,
     best: BestFile<'a>,
+    /// The best routes of the run so far, which the search shows only once. If they are not saved, there are none.
+    routes: Vec<Vec<u32>>,
 }
 
 impl<'a> SearchWatch<'a> {
@@ -33,10 +37,11 @@ impl<'a> SearchWatch<'a> {
             line: ProgressLine::new(rt),
             lines,
             best: BestFile::new(rt, search, kept)?,
+            routes: Vec::new(rt.alloc()),
         })
     }
 
-    /// Removes the file with the best tour, once the search has written its output file.
+    /// Removes the file with the best result, once the search has written its output file.
     pub fn end(&self) {
         self.best.remove();
     }
@@ -45,6 +50,17 @@ impl<'a> SearchWatch<'a> {
     /// saved.
     pub fn keep_result(&mut self, text: &[u8]) -> Option<&str> {
         self.best.keep_result(text)
+    }
+
+    /// Copies the best routes of the run, if they are saved. If memory runs out, nothing more is saved.
+    fn copy(&mut self, routes: &[Vec<u32>]) {
+        if !self.best.is_kept() {
+            return;
+        }
+        match copied_routes(self.rt.alloc(), routes) {
+            Ok(copies) => self.routes = copies,
+            Err(_) => self.best.give_up(),
+        }
     }
 }
 
@@ -56,14 +72,45 @@ impl Watch for SearchWatch<'_> {
     }
 
     fn trial(&mut self, progress: &Progress, best: &[u32]) {
-        self.line.trial(progress);
-        self.best.trial(progress, best);
+        self.line.trial(&Stage::of_tour(progress));
+        self.best.show(
+            progress.best,
+            Found::Tour(best),
+            progress.trial == progress.trials,
+        );
     }
 
     fn end_run(&mut self, run: u32, report: &RunReport) {
         if self.lines {
             self.line.clear();
             let _ = write_run_line(&mut ToWrite::new(self.rt.stderr()), run as u64, report);
+        }
+    }
+}
+
+impl RouteWatch for SearchWatch<'_> {
+    ghost shows = { λ _ _ _. Unit {0} };
+
+    fn begin(&mut self, name: &[u8]) {
+        self.best.begin(name);
+    }
+
+    fn trial(&mut self, progress: &RouteProgress, better: Option<&[Vec<u32>]>) {
+        self.line.trial(&Stage::of_routes(progress));
+        if let Some(routes) = better {
+            self.copy(routes);
+        }
+        self.best
+            .show(progress.best, Found::Routes(&self.routes), false);
+    }
+
+    fn end_run(&mut self, run: u32, report: &RouteRun) {
+        self.best
+            .show(report.best, Found::Routes(&self.routes), true);
+        self.line.end_run(run);
+        if self.lines {
+            self.line.clear();
+            let _ = write_route_run_line(&mut ToWrite::new(self.rt.stderr()), run as u64, report);
         }
     }
 }

@@ -1,10 +1,10 @@
 //! Checks the output file of `solve` before the search.
 use crate::file_id::{FileId, id_of};
 use crate::output::find_place;
+use crate::refusal::{KeyMisfit, Refusal};
 use crate::report;
 use crate::search::Search;
 use std::fs;
-use std::process::ExitCode;
 use tk_params::Key;
 
 /// The files that `solve` reads, as far as they are regular files.
@@ -14,7 +14,7 @@ pub struct Kept {
     pub parameters: Option<FileId>,
     /// The problem file.
     pub problem: Option<FileId>,
-    /// The initial tour file, which may be overwritten, since the new tour is not longer.
+    /// The file of the initial tour or solution, which may be overwritten, since the result is not longer.
     pub initial: Option<FileId>,
 }
 
@@ -24,7 +24,7 @@ impl Kept {
         found.is_some() && (found == self.problem || found == self.parameters)
     }
 
-    /// Whether the file that was found is the initial tour file.
+    /// Whether the file that was found is that of the initial tour or solution.
     pub fn is_initial(&self, found: Option<FileId>) -> bool {
         found.is_some() && found == self.initial
     }
@@ -33,12 +33,12 @@ impl Kept {
 /// Rejects an output file that is the parameter file or the problem file, or that cannot be written.
 ///
 /// # Errors
-/// The exit status, after a message.
-pub fn check_written(
+/// Why it is rejected.
+pub fn check_written<'a>(
     rt: &HostRuntime,
-    search: &Search<'_, '_>,
+    search: &Search<'_, 'a>,
     kept: Kept,
-) -> Result<(), ExitCode> {
+) -> Result<(), Refusal<'a>> {
     for key in [Key::TourFile, Key::SolutionFile] {
         if let Some(name) = search.file_of(key) {
             check_other(rt, search, key, name, kept)?;
@@ -49,30 +49,31 @@ pub fn check_written(
 }
 
 /// Rejects a name that leads to the problem file or the parameter file.
-fn check_other(
+fn check_other<'a>(
     rt: &HostRuntime,
-    search: &Search<'_, '_>,
+    search: &Search<'_, 'a>,
     key: Key,
     name: &str,
     kept: Kept,
-) -> Result<(), ExitCode> {
+) -> Result<(), Refusal<'a>> {
     let Some(found) = id_of(fs::metadata(rt, name)) else {
         return Ok(());
     };
     let named = search.named(key);
     if kept.problem == Some(found) {
-        let problem = search.named(Key::ProblemFile);
-        return Err(report::same_as_problem(rt, search.file, named, problem));
+        let misfit = KeyMisfit::SameFile(search.named(Key::ProblemFile));
+        return Err(Refusal::UnfitKey(search.file, named, misfit));
     }
     if kept.parameters == Some(found) {
-        return Err(report::same_as_parameters(rt, search.file, named));
+        let misfit = KeyMisfit::ParameterFile;
+        return Err(Refusal::UnfitKey(search.file, named, misfit));
     }
     Ok(())
 }
 
 /// Notes, after a search, the file names in a parameter file that are most likely mistakes.
 pub fn note_slips(rt: &HostRuntime, search: &Search<'_, '_>) {
-    if search.by_options {
+    if search.is_by_options() {
         return;
     }
     for key in [

@@ -4,6 +4,7 @@ mod InMemory
 mod PlotTexts
 mod PointArrays
 mod Refusals
+mod RouteTexts
 mod SolveTexts
 mod Stops
 mod TextsSaid

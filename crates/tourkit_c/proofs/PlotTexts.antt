@@ -86,9 +86,9 @@ claim_stop_of : {C : Type 0} (given : Bool) (source : sources.Ghosts C) (old new
     → MatchOption o (ReadsTour source old new (Err v)) (λ _. ReadsSolution source old new (Err v)) →
     IsStop plot_misfit NeverClashes (IsTourFault given claim) (IsSolutionFault given claim) problem v
 claim_stop_of given source old new problem claim e p said fits v is None r h =
-    tour_stop _ _ _ _ _ p said fits _ _ _ _ e v (λ f has. (is, r, has)) h
+    tour_stop _ NeverClashes _ _ _ p said fits _ _ _ _ e v (λ f has. (is, r, has)) h
 claim_stop_of given source old new problem claim e p said fits v is (Some routing) r h =
-    solution_stop _ _ _ _ _ p said fits _ _ _ _ e v (λ f has. (is, ap is_some r, has)) h
+    solution_stop _ NeverClashes _ _ _ p said fits _ _ _ _ e v (λ f has. (is, ap is_some r, has)) h
 
 -- the second text was rejected
 pub claim_stop : {C : Type 0} (source : sources.Ghosts C) (old new : C) (problem claim : List ℕ)

@@ -11,12 +11,14 @@ use Rattle.tk_engines.specs.Params.{param_cause_of, params_answer}
 use Rattle.tk_params.specs.declared.fault.ParamFault.{ParamFault}
 use Rattle.tk_params.specs.declared.fault.ParamKind.{ParamKind}
 use Rattle.tk_params.specs.declared.fault.ParamKind.TheVariants as params
+use Rattle.tk_engines.specs.declared.route_fault.RouteFault.{RouteFault}
+use Rattle.tk_engines.specs.declared.route_fault.RouteFault.TheVariants as solutions
 use Rattle.tk_engines.specs.declared.fault.Fault.{Fault}
 use Rattle.tk_engines.specs.declared.fault.Fault.TheVariants as faults
 use Rattle.tourkit_c.specs.Answers.{IsFaulty, IsFitAnd, IsMisfitAnswer, IsRightRefusal, IsStop, NeverClashes}
 use Rattle.tourkit_c.specs.Answers.{NoFault, NoRefusal}
 use Rattle.tourkit_c.specs.Outcomes.{clash_answer, fault_answer, kind_answer, param_answer, param_kind_answer}
-use Rattle.tourkit_c.specs.Outcomes.{param_number, refused, text_answer, text_number}
+use Rattle.tourkit_c.specs.Outcomes.{param_number, refused, route_clash_answer, text_answer, text_number}
 use Rattle.tourkit_c.specs.Solved.{AreParamsRefused, HasParamFault}
 use Rattle.tourkit_c.specs.Texts.{HasFault}
 use Rattle.tourkit_c.specs.declared.answer.Answer.{Answer}
@@ -58,13 +60,21 @@ params_refused parameters f answer two is h =
       is = subst (IsToldOf (Unit {0}) (λ e. params_answer parameters ≡ Err e) f) told.1 h;
     }
 
--- the answer to a clash reports the third text, the initial tour
-clash_text : (f : TourFault) (answer : Answer) → answer.status ≡ 2 → answer ≡ clash_answer f answer.needed →
-    answer.text ≡ 3
-clash_text tours.NoMemory answer two is = absurd (omega (arith, ap (λ (a : Answer). a.status) is))
-clash_text f answer two is = ap (λ (a : Answer). a.text) is
+-- the answer to a clash reports the text that clashes
+clash_text : (text : ℕ) (f : TourFault) (answer : Answer) → answer.status ≡ 2
+    → answer ≡ clash_answer text f answer.needed → answer.text ≡ text
+clash_text text tours.NoMemory answer two is = absurd (omega (arith, ap (λ (a : Answer). a.status) is))
+clash_text text f answer two is = ap (λ (a : Answer). a.text) is
 
-module _ (misfit : ProblemIs → Option Fault) (Clash : ProblemIs → TourFault → Type 0)
+route_clash_text : (text : ℕ) (f : RouteFault) (answer : Answer) → answer ≡ route_clash_answer text f answer.needed →
+    answer.text ≡ text
+route_clash_text text (solutions.BadCustomer route number) answer is = ap (λ (a : Answer). a.text) is
+route_clash_text text (solutions.ServedTwice customer) answer is = ap (λ (a : Answer). a.text) is
+route_clash_text text (solutions.OverCapacity route load) answer is = ap (λ (a : Answer). a.text) is
+route_clash_text text (solutions.NotServed customer) answer is = ap (λ (a : Answer). a.text) is
+route_clash_text text (solutions.WrongCost read counted) answer is = ap (λ (a : Answer). a.text) is
+
+module _ (misfit : ProblemIs → Option Fault) (Clash : ProblemIs → Fault → Type 0)
     (Second : ProblemIs → Answer → Type 0) (first : ℕ) (some : 1 ≤ first) (problem : List ℕ) (answer : Answer) where
   first_refused : IsFaulty problem_texts first problem answer → IsRightRefusal misfit Clash Second first problem answer
   first_refused h =
@@ -78,7 +88,7 @@ module _ (misfit : ProblemIs → Option Fault) (Clash : ProblemIs → TourFault 
 
   second_refused : answer.text ≡ first + 1
       → IsFitAnd misfit problem (λ p. Second p answer
-      ⊎ ((f : TourFault) × Clash p f × (answer ≡ clash_answer f answer.needed))) →
+      ⊎ ((f : Fault) × Clash p f × (answer ≡ fault_answer first f answer.needed))) →
       IsRightRefusal misfit Clash Second first problem answer
   second_refused here h = record {
     known = inr (inr here);
@@ -103,26 +113,27 @@ module _ (misfit : ProblemIs → Option Fault) (Clash : ProblemIs → TourFault 
       Second p answer)
       → ((p : ProblemIs) (f : TextFault) → Solution p f → answer ≡ text_answer (first + 1) f answer.needed →
       Second p answer)
-      → ((p : ProblemIs) (f : TourFault) → Clash p f → first ≡ 2) → (v : Fault)
-      → answer ≡ fault_answer first v answer.needed →
+      → (v : Fault) → answer ≡ fault_answer first v answer.needed →
       IsStop misfit Clash Tour Solution problem v → IsRightRefusal misfit Clash Second first problem answer
-  right_refusal Tour Solution two tour solution clash (faults.Problem f) is h =
+  right_refusal Tour Solution two tour solution (faults.Problem f) is h =
       first_refused (faulty problem_texts first problem f answer two refl is h)
-  right_refusal Tour Solution two tour solution clash (faults.Tour f) is h =
+  right_refusal Tour Solution two tour solution (faults.Tour f) is h =
       second_refused (ap (λ (a : Answer). a.text) (told_kind (first + 1) f.line f.kind answer two is).0)
       (record { p = h.p; is_problem = h.is_problem; fits = h.fits; fact = inl (tour h.p f h.fact is) })
-  right_refusal Tour Solution two tour solution clash (faults.Solution f) is h =
+  right_refusal Tour Solution two tour solution (faults.Solution f) is h =
       second_refused (ap (λ (a : Answer). a.text) (told_kind (first + 1) f.line f.kind answer two is).0)
       (record { p = h.p; is_problem = h.is_problem; fits = h.fits; fact = inl (solution h.p f h.fact is) })
-  right_refusal Tour Solution two tour solution clash (faults.Initial f) is h =
-      let here : answer.text ≡ first + 1 = omega (arith, clash_text f answer two is, clash h.p f h.fact) in
-      second_refused here
-      (record { p = h.p; is_problem = h.is_problem; fits = h.fits; fact = inr (f, h.fact, is) })
-  right_refusal Tour Solution two tour solution clash (faults.Write f) is h =
+  right_refusal Tour Solution two tour solution (faults.Initial f) is h =
+      second_refused (clash_text (first + 1) f answer two is)
+      (record { p = h.p; is_problem = h.is_problem; fits = h.fits; fact = inr (faults.Initial f, h.fact, is) })
+  right_refusal Tour Solution two tour solution (faults.InitialRoutes f) is h =
+      second_refused (route_clash_text (first + 1) f answer is)
+      (record { p = h.p; is_problem = h.is_problem; fits = h.fits; fact = inr (faults.InitialRoutes f, h.fact, is) })
+  right_refusal Tour Solution two tour solution (faults.Write f) is h =
       absurd (omega (arith, ap (λ (a : Answer). a.status) is))
-  right_refusal Tour Solution two tour solution clash faults.NoMemory is h =
+  right_refusal Tour Solution two tour solution faults.NoMemory is h =
       absurd (omega (arith, ap (λ (a : Answer). a.status) is))
-  right_refusal Tour Solution two tour solution clash v is h = misfit_refused (v, h, is)
+  right_refusal Tour Solution two tour solution v is h = misfit_refused (v, h, is)
 
 -- like right_refusal, if the problem is the only text
 pub problem_refusal : (misfit : ProblemIs → Option Fault) (problem : List ℕ) (answer : Answer) → answer.status ≡ 2 →
@@ -130,4 +141,4 @@ pub problem_refusal : (misfit : ProblemIs → Option Fault) (problem : List ℕ)
     IsRightRefusal misfit NeverClashes NoRefusal 1 problem answer
 problem_refusal misfit problem answer two =
     right_refusal misfit NeverClashes NoRefusal 1 (omega arith) problem answer NoFault NoFault two
-    (λ p f h is. elim h [ ]) (λ p f h is. elim h [ ]) (λ p f h. elim h [ ])
+    (λ p f h is. elim h [ ]) (λ p f h is. elim h [ ])

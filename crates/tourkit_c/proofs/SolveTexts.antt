@@ -5,12 +5,10 @@ use Rattle.tk_text.specs.Problem.{ProblemIs, problem_texts}
 use Rattle.tk_text.specs.Tour.{tour_texts}
 use Rattle.tk_words.specs.declared.sources.source.Source as sources
 use Rattle.tk_writers.specs.declared.output.sink.Sink as sinks
-use Rattle.tk_tour.specs.declared.fault.TourFault.{TourFault}
 use Rattle.tk_engines.specs.Asked.{ParamsAre}
 use Rattle.tk_engines.specs.Engine.{IsGiven, ReadsProblem}
 use Rattle.tk_engines.specs.Solve.{Files, IsInitial, ReadsInitial, WritesFiles, solve_task}
 use Rattle.tk_engines.specs.declared.fault.Fault.{Fault}
-use Rattle.tk_engines.specs.declared.fault.Fault.TheVariants.{Initial}
 use Rattle.tk_solve.specs.Watching.{WereShown}
 use Rattle.tk_solve.specs.declared.watch.Unwatched.{Unwatched}
 use Rattle.tourkit_c.proofs.PlotTexts.{appended}
@@ -28,7 +26,7 @@ initial_says given source old new text None e h = h.0
 initial_says given source old new text (Some cities) e h =
     (h.0, says tour_texts source old new text cities e h.1)
 
-files_same : (f : Files) (file out : List ℕ) → file ≡ f.file → out ≡ f.out → f ≡ record { file = file; out = out }
+pub files_same : (f : Files) (file out : List ℕ) → file ≡ f.file → out ≡ f.out → f ≡ record { file = file; out = out }
 files_same f file out e i =
     ap (λ (l : List ℕ). record { file = l; out = f.out }) (sym e)
     ∙ ap (λ (l : List ℕ). record { file = file; out = l }) (sym i)
@@ -72,12 +70,13 @@ module _ {S : Type 0} (source : sources.Ghosts S) (old new : S) (params : Params
       IsStop (misfit_of params) (IsClashOf (is_some params.initial_tour_file) initial)
       (IsInitialFault (is_some params.initial_tour_file) initial) NoFault problem v
   initial_stop v said fits h =
-      tour_stop _ _ _ _ _ p said fits _ _ _ _ e v (λ f has. (h.0, has)) h.1
+      tour_stop _ (IsClashOf (is_some params.initial_tour_file) initial) _ _ _ p said fits _ _ _ _ e v
+      (λ f has. (h.0, has)) h.1
 
   -- it clashes with the problem
-  pub initial_clash : (tour : Option (List ℕ)) (f : TourFault)
+  pub initial_clash : (tour : Option (List ℕ)) (f : Fault)
       → ReadsInitial (is_some params.initial_tour_file) source old new (Ok tour)
-      → IsInitial p tour (Some (Initial f)) → IsClashOf (is_some params.initial_tour_file) initial p f
+      → IsInitial p tour (Some f) → IsClashOf (is_some params.initial_tour_file) initial p f
   initial_clash None f h clash = absurd cc
   initial_clash (Some cities) f h clash = record {
     is_given = h.0;

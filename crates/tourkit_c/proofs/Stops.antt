@@ -6,7 +6,6 @@ use Rattle.tk_text.specs.Texts.{Texts}
 use Rattle.tk_text.specs.Tour.{tour_texts}
 use Rattle.tk_words.specs.declared.fault.TextFault.{TextFault}
 use Rattle.tk_words.specs.declared.sources.source.Source as sources
-use Rattle.tk_tour.specs.declared.fault.TourFault.{TourFault}
 use Rattle.tk_engines.specs.Engine.{EndsByProblem, Reading, Reads, ReadsProblem, ReadsSolution, ReadsTour, Task}
 use Rattle.tk_engines.specs.Engine.{Writing}
 use Rattle.tk_engines.specs.declared.fault.Fault.{Fault}
@@ -16,7 +15,7 @@ use Rattle.tourkit_c.specs.Answers.{IsStop}
 use Rattle.tourkit_c.specs.Texts.{HasFault, TextSays}
 
 -- the problem fits, and the tour text or the solution text was rejected
-module _ {S : Type 0} (misfit : ProblemIs → Option Fault) (Clash : ProblemIs → TourFault → Type 0)
+module _ {S : Type 0} (misfit : ProblemIs → Option Fault) (Clash : ProblemIs → Fault → Type 0)
     (Tour Solution : ProblemIs → TextFault → Type 0) (problem : List ℕ) (p : ProblemIs)
     (said : TextSays problem_texts problem p) (fits : misfit p ≡ None) (source : sources.Ghosts S)
     (old new : S) (text : List ℕ) (e : source.left old ≡ Some text) (v : Fault) where
@@ -37,15 +36,14 @@ module _ {S : Type 0} (misfit : ProblemIs → Option Fault) (Clash : ProblemIs �
   solution_stop wrap = second_stop solution_texts faults.Solution
       (λ f has. record { p = p; is_problem = said; fits = fits; fact = wrap f has })
 
-module _ {S B R T : Type 0} (task : Task B R T) (Clash : ProblemIs → TourFault → Type 0)
+module _ {S B R T : Type 0} (task : Task B R T) (Clash : ProblemIs → Fault → Type 0)
     (Tour Solution : ProblemIs → TextFault → Type 0) (source : sources.Ghosts S) (old new : S)
     (problem : List ℕ) (e : source.left old ≡ Some problem)
     (Second : ProblemIs → Reading B) (Writes : Writing T)
     (seconds : (p : ProblemIs) (v : Fault) → TextSays problem_texts problem p → task.misfit p ≡ None →
     Second p (Err v) →
     IsStop task.misfit Clash Tour Solution problem v)
-    (clashes : (p : ProblemIs) (b : B) (f : TourFault) → Second p (Ok b) →
-    task.IsClash p b (Some (faults.Initial f)) → Clash p f) where
+    (clashes : (p : ProblemIs) (b : B) (f : Fault) → Second p (Ok b) → task.IsClash p b (Some f) → Clash p f) where
   pub stop_of : (v : Fault) → EndsByProblem task (ReadsProblem source old new) Second Writes (Err v) →
       IsStop task.misfit Clash Tour Solution problem v
   stop_of (faults.Problem g) h =
@@ -55,7 +53,13 @@ module _ {S B R T : Type 0} (task : Task B R T) (Clash : ProblemIs → TourFault
     p = h.0;
     is_problem = says problem_texts source old new problem h.0 e h.2.is_problem;
     fits = h.2.fits;
-    fact = clashes h.0 h.1 g h.2.is_second h.3;
+    fact = clashes h.0 h.1 (faults.Initial g) h.2.is_second h.3;
+  }
+  stop_of (faults.InitialRoutes g) h = record {
+    p = h.0;
+    is_problem = says problem_texts source old new problem h.0 e h.2.is_problem;
+    fits = h.2.fits;
+    fact = clashes h.0 h.1 (faults.InitialRoutes g) h.2.is_second h.3;
   }
   stop_of (faults.Write g) h = tt
   stop_of faults.NoMemory h = tt

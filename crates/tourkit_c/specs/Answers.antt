@@ -2,11 +2,10 @@
 use Rattle.std.specs.Prelude.{◌≡◌, ◌+◌, ◌⊎◌, ℕ, List, Option, Some, None, Err}
 use Rattle.tk_text.specs.Texts.{Texts, answer_of}
 use Rattle.tk_text.specs.Problem.{ProblemIs, problem_texts}
-use Rattle.tk_tour.specs.declared.fault.TourFault.{TourFault}
 use Rattle.tk_engines.specs.declared.fault.Fault.{Fault}
 use Rattle.tk_engines.specs.declared.fault.Fault.TheVariants as faults
 use Rattle.tk_words.specs.declared.fault.TextFault.{TextFault}
-use Rattle.tourkit_c.specs.Outcomes.{clash_answer, misfit_number, refused, text_number}
+use Rattle.tourkit_c.specs.Outcomes.{fault_answer, misfit_number, refused, text_number}
 use Rattle.tourkit_c.specs.Texts.{HasFault, TextSays}
 use Rattle.tourkit_c.specs.declared.answer.Answer.{Answer}
 
@@ -39,17 +38,21 @@ abbrev pub NoFault : ProblemIs → TextFault → Type 0
 NoFault p f = ⊥
 
 -- no second text clashes with the problem
-abbrev pub NeverClashes : ProblemIs → TourFault → Type 0
+abbrev pub NeverClashes : ProblemIs → Fault → Type 0
 NeverClashes p f = ⊥
 
 -- why an engine stopped: the problem text has a fault; the problem does not fit; or it fits, and the tour text or the
--- solution text has a fault, or the tour clashes with the problem. Nothing is known if memory ran out or a write failed
-abbrev pub IsStop : (ProblemIs → Option Fault) → (ProblemIs → TourFault → Type 0) → (ProblemIs → TextFault → Type 0) →
+-- solution text has a fault, or what it contains clashes with the problem. Nothing is known if memory ran out or a
+-- write failed
+abbrev pub IsStop : (ProblemIs → Option Fault) → (ProblemIs → Fault → Type 0) → (ProblemIs → TextFault → Type 0) →
     (ProblemIs → TextFault → Type 0) → List ℕ → Fault → Type 0
 IsStop misfit Clash Tour Solution problem (faults.Problem f) = HasFault problem_texts problem f
 IsStop misfit Clash Tour Solution problem (faults.Tour f) = IsFitAnd misfit problem (λ p. Tour p f)
 IsStop misfit Clash Tour Solution problem (faults.Solution f) = IsFitAnd misfit problem (λ p. Solution p f)
-IsStop misfit Clash Tour Solution problem (faults.Initial f) = IsFitAnd misfit problem (λ p. Clash p f)
+IsStop misfit Clash Tour Solution problem (faults.Initial f) =
+    IsFitAnd misfit problem (λ p. Clash p (faults.Initial f))
+IsStop misfit Clash Tour Solution problem (faults.InitialRoutes f) =
+    IsFitAnd misfit problem (λ p. Clash p (faults.InitialRoutes f))
 IsStop misfit Clash Tour Solution problem faults.WrongType = IsMisfitOf misfit problem faults.WrongType
 IsStop misfit Clash Tour Solution problem (faults.NotForType key) = IsMisfitOf misfit problem (faults.NotForType key)
 IsStop misfit Clash Tour Solution problem faults.TooLarge = IsMisfitOf misfit problem faults.TooLarge
@@ -68,11 +71,11 @@ NoRefusal p answer = ⊥
 -- the answer reports correctly why a call was rejected: the problem text, whose number is `first`, has the fault; or
 -- the problem does not fit, for the reason that is reported; or it fits, and the second text has the fault, or clashes
 -- with the problem
-pub record IsRightRefusal (misfit : ProblemIs → Option Fault) (Clash : ProblemIs → TourFault → Type 0)
+pub record IsRightRefusal (misfit : ProblemIs → Option Fault) (Clash : ProblemIs → Fault → Type 0)
     (Second : ProblemIs → Answer → Type 0) (first : ℕ) (problem : List ℕ) (answer : Answer) : Type 0 where
   pub known : (answer.text ≡ 0) ⊎ ((answer.text ≡ first) ⊎ (answer.text ≡ first + 1))
   pub is_problem : answer.text ≡ first → IsFaulty problem_texts first problem answer
   pub is_second : answer.text ≡ first + 1 →
       IsFitAnd misfit problem (λ p. Second p answer
-      ⊎ ((f : TourFault) × Clash p f × (answer ≡ clash_answer f answer.needed)))
+      ⊎ ((f : Fault) × Clash p f × (answer ≡ fault_answer first f answer.needed)))
   pub is_misfit : answer.text ≡ 0 → IsMisfitAnswer misfit problem answer

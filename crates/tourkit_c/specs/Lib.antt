@@ -6,5 +6,6 @@ pub mod Outcomes
 pub mod Plotted
 pub mod Points
 pub mod Solved
+pub mod SolvedRoutes
 pub mod Texts
 pub mod Weights

@@ -1,11 +1,13 @@
 -- The answers of calls, by their outcome. Fields that do not apply are 0.
-use Rattle.std.specs.Prelude.{◌≡◌, ◌≤◌, ◌+◌, ℕ}
+use Rattle.std.specs.Prelude.{◌≡◌, ◌≤◌, ◌+◌, ℕ, min}
 use Rattle.tk_tour.specs.declared.fault.TourFault.{TourFault}
 use Rattle.tk_tour.specs.declared.fault.TourFault.TheVariants as tours
 use Rattle.tk_tour.specs.declared.verdict.Verdict.{Verdict}
 use Rattle.tk_tour.specs.declared.verdict.Verdict.TheVariants as verdicts
 use Rattle.tk_engines.specs.declared.fault.Fault.{Fault}
 use Rattle.tk_engines.specs.declared.fault.Fault.TheVariants as faults
+use Rattle.tk_engines.specs.declared.route_fault.RouteFault.{RouteFault}
+use Rattle.tk_engines.specs.declared.route_fault.RouteFault.TheVariants as solutions
 use Rattle.tk_words.specs.declared.fault.TextFault.{TextFault}
 use Rattle.tk_words.specs.declared.fault.TextKind.{TextKind}
 use Rattle.tk_words.specs.declared.fault.TextKind.TheVariants as kinds
@@ -61,16 +63,36 @@ refused text line kind needed = record {
   needed_file = 0;
 }
 
--- the initial tour, which is the third text, clashes with the problem at this position, which is 0 for a wrong count
-abbrev pub clashing : ℕ → ℕ → ℕ → Answer
-clashing kind place needed =
-    record { status = 2; text = 3; line = 0; kind = kind; place = place; length = 0; needed = needed; needed_file = 0 }
+-- the tour or the routes of this text clash with the problem at this position, which is 0 for none
+abbrev pub clashing : ℕ → ℕ → ℕ → ℕ → Answer
+clashing text kind place needed = record {
+  status = 2;
+  text = text;
+  line = 0;
+  kind = kind;
+  place = place;
+  length = 0;
+  needed = needed;
+  needed_file = 0;
+}
 
-abbrev pub clash_answer : TourFault → ℕ → Answer
-clash_answer tours.WrongCount needed = clashing 20 0 needed
-clash_answer (tours.OutOfRange place) needed = clashing 21 place needed
-clash_answer (tours.RepeatedCity place) needed = clashing 22 place needed
-clash_answer tours.NoMemory needed = with_status 3 needed
+abbrev pub clash_answer : ℕ → TourFault → ℕ → Answer
+clash_answer text tours.WrongCount needed = clashing text 20 0 needed
+clash_answer text (tours.OutOfRange place) needed = clashing text 21 place needed
+clash_answer text (tours.RepeatedCity place) needed = clashing text 22 place needed
+clash_answer text tours.NoMemory needed = with_status 3 needed
+
+-- the number of a route as a position, which is a number of 32 bits
+abbrev pub place_of_route : ℕ → ℕ
+place_of_route route = min route 4294967295
+
+-- the position is the route, or else the customer
+abbrev pub route_clash_answer : ℕ → RouteFault → ℕ → Answer
+route_clash_answer text (solutions.BadCustomer route number) needed = clashing text 23 (place_of_route route) needed
+route_clash_answer text (solutions.ServedTwice customer) needed = clashing text 24 customer needed
+route_clash_answer text (solutions.OverCapacity route load) needed = clashing text 25 (place_of_route route) needed
+route_clash_answer text (solutions.NotServed customer) needed = clashing text 26 customer needed
+route_clash_answer text (solutions.WrongCost read counted) needed = clashing text 27 0 needed
 
 -- the number of a kind of fault, as in its message
 abbrev pub text_number : TextKind → ℕ
@@ -133,7 +155,8 @@ abbrev pub fault_answer : ℕ → Fault → ℕ → Answer
 fault_answer problem (faults.Problem f) needed = text_answer problem f needed
 fault_answer problem (faults.Tour f) needed = text_answer (problem + 1) f needed
 fault_answer problem (faults.Solution f) needed = text_answer (problem + 1) f needed
-fault_answer problem (faults.Initial f) needed = clash_answer f needed
+fault_answer problem (faults.Initial f) needed = clash_answer (problem + 1) f needed
+fault_answer problem (faults.InitialRoutes f) needed = route_clash_answer (problem + 1) f needed
 fault_answer problem (faults.Write f) needed = with_status 3 needed
 fault_answer problem faults.NoMemory needed = with_status 3 needed
 fault_answer problem f needed = refused 0 0 (misfit_number f) needed

@@ -9,9 +9,8 @@ use Rattle.tk_params.specs.declared.fault.ParamFault.{ParamFault}
 use Rattle.tk_solve.specs.Watching.{WereShown}
 use Rattle.tk_solve.specs.declared.watch.Unwatched.{Unwatched}
 use Rattle.tk_engines.specs.Solve.{Files, IsInitial, solve_task, unfit_key}
-use Rattle.tk_tour.specs.declared.fault.TourFault.{TourFault}
 use Rattle.tk_engines.specs.declared.fault.Fault.{Fault}
-use Rattle.tk_engines.specs.declared.fault.Fault.TheVariants.{Initial, NotForType}
+use Rattle.tk_engines.specs.declared.fault.Fault.TheVariants.{NotForType}
 use Rattle.tourkit_c.specs.Answers.{IsFaulty, IsRightRefusal}
 use Rattle.tourkit_c.specs.Outcomes.{param_number, refused}
 use Rattle.tourkit_c.specs.Texts.{AreWritten, HasFault, TextSays}
@@ -40,11 +39,11 @@ pub record IsSolvedOf (parameters problem initial : List ℕ) (files : Files) : 
   pub solved : IsSolvedBy p problem initial files
 
 -- an initial tour is given, and has this fault as a tour of the problem's cities
-pub record IsClashOf (given : Bool) (initial : List ℕ) (q : ProblemIs) (f : TourFault) : Type 0 where
+pub record IsClashOf (given : Bool) (initial : List ℕ) (q : ProblemIs) (f : Fault) : Type 0 where
   pub is_given : given ≡ true
   pub cities : List ℕ
   pub is_tour : TextSays tour_texts initial cities
-  pub clash : IsInitial q (Some cities) (Some (Initial f))
+  pub clash : IsInitial q (Some cities) (Some f)
 
 -- the text of an initial tour is given, and has this fault
 abbrev pub IsInitialFault : Bool → List ℕ → ProblemIs → TextFault → Type 0

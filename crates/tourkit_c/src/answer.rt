@@ -1,14 +1,15 @@
 //! The result of a call, apart from what it writes.
 ghost use Rattle.std.specs.Prelude.{◌≡◌, ◌≤◌};
 ghost use Rattle.tourkit_c.specs.Outcomes.{IsFailure, clash_answer, clashing, fault_answer, found, of_length};
-ghost use Rattle.tourkit_c.specs.Outcomes.{param_answer, param_number, refused, text_answer, text_number};
+ghost use Rattle.tourkit_c.specs.Outcomes.{param_answer, param_number, place_of_route, refused, route_clash_answer};
+ghost use Rattle.tourkit_c.specs.Outcomes.{text_answer, text_number};
 ghost use Rattle.tourkit_c.specs.Outcomes.{with_status, with_status_twice};
 ghost use Rattle.tourkit_c.specs.Texts.{IsSomeText, WasHandedOut};
 
 use crate::hand_out::hand_out;
 use std::alloc::Global;
 use std::fmt;
-use tk_engines::{Fault, ParamFault, ParamKind};
+use tk_engines::{Fault, ParamFault, ParamKind, RouteFault};
 use tk_text::{TextFault, TextKind};
 use tk_tour::TourFault;
 
@@ -32,7 +33,7 @@ pub struct Answer {
     pub line: u64,
     /// The number of the fault; 0 for none.
     pub kind: u32,
-    /// The position of the fault in a tour, from 1; 0 for none.
+    /// The position of the fault in a tour, from 1, or the number of the route or of the customer; 0 for none.
     pub place: u32,
     /// The length of a tour, from `tourkit_check_cities` and the other checks of arrays; otherwise 0.
     pub length: u64,
@@ -178,7 +179,8 @@ impl Answer {
                 fault,
                 needed,
             ),
-            Fault::Initial(fault) => Answer::of_tour(fault, needed),
+            Fault::Initial(fault) => Answer::of_tour(problem + 1, fault, needed),
+            Fault::InitialRoutes(fault) => Answer::of_routes(problem + 1, fault, needed),
             Fault::WrongType => Answer::refused(0, 0, 16, needed),
             Fault::NotForType(_) => Answer::refused(0, 0, 17, needed),
             Fault::TooLarge => Answer::refused(0, 0, 18, needed),
@@ -187,28 +189,54 @@ impl Answer {
         }
     }
 
-    /// The result for the fault of an initial tour, which is the third text.
-    fn of_tour(fault: &TourFault, needed: usize) -> Answer
-        ensures is { result ≡ clash_answer fault.now needed }
+    /// The result for the fault of an initial tour, which is the text of this number.
+    fn of_tour(text: u32, fault: &TourFault, needed: usize) -> Answer
+        ensures is { result ≡ clash_answer text fault.now needed }
         ensures failure { IsFailure needed result }
     {
         match fault {
-            TourFault::WrongCount => Answer::clashing(20, 0, needed),
-            TourFault::OutOfRange(place) => Answer::clashing(21, *place, needed),
-            TourFault::RepeatedCity(place) => Answer::clashing(22, *place, needed),
+            TourFault::WrongCount => Answer::clashing(text, 20, 0, needed),
+            TourFault::OutOfRange(place) => Answer::clashing(text, 21, *place, needed),
+            TourFault::RepeatedCity(place) => Answer::clashing(text, 22, *place, needed),
             TourFault::NoMemory => Answer::ended(NO_MEMORY, needed),
         }
     }
 
-    /// The result for an initial tour with this fault at this position, which is 0 for a wrong count.
-    fn clashing(kind: u32, place: u32, needed: usize) -> Answer
-        ensures { result ≡ clashing kind place needed }
+    /// The result for the fault of the routes of an initial solution, which is the text of this number. The position of
+    /// the fault is its route or its customer.
+    fn of_routes(text: u32, fault: &RouteFault, needed: usize) -> Answer
+        ensures { result ≡ route_clash_answer text fault.now needed }
+    {
+        match fault {
+            RouteFault::BadCustomer(route, _) => {
+                Answer::clashing(text, 23, place_of_route(*route), needed)
+            }
+            RouteFault::ServedTwice(customer) => Answer::clashing(text, 24, *customer, needed),
+            RouteFault::OverCapacity(route, _) => {
+                Answer::clashing(text, 25, place_of_route(*route), needed)
+            }
+            RouteFault::NotServed(customer) => Answer::clashing(text, 26, *customer, needed),
+            RouteFault::WrongCost(_, _) => Answer::clashing(text, 27, 0, needed),
+        }
+    }
+
+    /// The result for an initial tour or an initial solution with this fault at this position, which is 0 for none.
+    /// `text` is the number of its text.
+    fn clashing(text: u32, kind: u32, place: u32, needed: usize) -> Answer
+        ensures { result ≡ clashing text kind place needed }
     {
         Answer {
             place,
-            ..Answer::refused(3, 0, kind, needed)
+            ..Answer::refused(text, 0, kind, needed)
         }
     }
+}
+
+/// The number of a route as the position of a fault. A solution has far fewer than 2^32 routes.
+fn place_of_route(route: u64) -> u32
+    ensures { result ≡ place_of_route route }
+{
+    route.min(u32::MAX as u64) as u32
 }
 
 /// Writes as much of the message of a fault to a buffer as fits, and returns the number of bytes of the whole message,

@@ -13,5 +13,6 @@ mod lists;
 mod plot;
 mod points;
 mod solve;
+mod solve_routes;
 mod tables;
 mod weights;

@@ -1,6 +1,6 @@
 //! The arguments of `matrix`.
 
-use crate::argument::{Argument, Form, PROBLEM};
+use crate::argument::{Argument, Form, JSON, PROBLEM};
 use crate::asked::Asked;
 use crate::subcommand::{Kind, Subcommand};
 use clap::ArgMatches;
@@ -9,6 +9,7 @@ use clap::builder::ValueParser;
 /// The text at the end of `matrix --help`.
 const HELP: &str = "Reads PROBLEM, of at most 5,000 nodes.
 Prints a TSPLIB problem file that lists every distance in the order of FORMAT.
+With --json, prints an object with all distances of each node, in any FORMAT.
 
 Exit status:
   0  the matrix was printed
@@ -32,7 +33,7 @@ const FORMATS: [&str; 9] = [
 ];
 
 /// The arguments of the subcommand.
-static ARGUMENTS: [Argument; 2] = [
+static ARGUMENTS: [Argument; 3] = [
     PROBLEM,
     Argument {
         name: "FORMAT",
@@ -40,6 +41,7 @@ static ARGUMENTS: [Argument; 2] = [
         form: Form::Required,
         values: ValueParser::Names(&FORMATS),
     },
+    JSON,
 ];
 
 /// The subcommand `matrix`.
@@ -59,5 +61,6 @@ pub fn asked<'a>(words: &ArgMatches<'a>) -> Option<Asked<'a>> {
     Some(Asked::Matrix {
         problem: words.get_str("PROBLEM")?,
         format: words.get_str("FORMAT")?,
+        json: words.get_flag("json"),
     })
 }

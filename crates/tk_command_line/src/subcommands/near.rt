@@ -1,6 +1,6 @@
 //! The arguments of `near`.
 
-use crate::argument::{Argument, Form, PROBLEM};
+use crate::argument::{Argument, Form, JSON, PROBLEM};
 use crate::asked::Asked;
 use crate::subcommand::{Kind, Subcommand};
 use clap::ArgMatches;
@@ -21,7 +21,7 @@ Example:
   zcat berlin52.tsp.gz | tourkit near - -k 5";
 
 /// The arguments of the subcommand.
-static ARGUMENTS: [Argument; 2] = [
+static ARGUMENTS: [Argument; 3] = [
     PROBLEM,
     Argument {
         name: "k",
@@ -29,6 +29,7 @@ static ARGUMENTS: [Argument; 2] = [
         form: Form::Number('k', "5"),
         values: ValueParser::Unsigned(1, CANDIDATE_LIMIT as u64),
     },
+    JSON,
 ];
 
 /// The subcommand `near`.
@@ -48,5 +49,6 @@ pub fn asked<'a>(words: &ArgMatches<'a>) -> Option<Asked<'a>> {
     Some(Asked::Near {
         problem: words.get_str("PROBLEM")?,
         length: ListLength::of(words.get_one::<u32>("k")?)?,
+        json: words.get_flag("json"),
     })
 }

@@ -6,29 +6,33 @@ use crate::search_options::SearchOptions;
 use crate::subcommand::{Kind, Subcommand};
 use clap::ArgMatches;
 use clap::builder::ValueParser;
-use tk_problem::CANDIDATE_LIMIT;
+use tk_problem::{CANDIDATE_LIMIT, ROUTE_LIMIT};
 
 /// The text at the end of `solve --help`.
 const HELP: &str =
     "With a search option or -o, the file is PROBLEM. Otherwise it is PARAMETERS, which specifies the whole search.
-Prints a line for each run and the best length, or the costs of the routes of a CVRP.
+With PROBLEM, the search of a CVRP moves customers between routes. With PARAMETERS or --within-routes, it does not.
+Prints a line for each run and the best length, or the cost and the number of the routes of a CVRP.
 Writes the best tour or the routes to the file that -o, TOUR_FILE or SOLUTION_FILE names.
-From the fifth second on, the best tour so far is kept in a file of that name plus .best.
+From the fifth second on, the best result so far is kept in a file of that name plus .best.
 
 Exit status:
   0  the search is done
+  1  the search is done, but its best solution has more routes than --vehicles states
   2  the arguments are wrong, a file is invalid, or a key or option does not apply to the problem
   3  a file cannot be read or written, output cannot be written, or memory has run out
 
 Examples:
   tourkit solve examples/board.tsp --trials 2000 -o board.tour
+  tourkit solve examples/bakery.vrp --trials 3000 -o bakery.sol
+  tourkit solve examples/bakery.vrp --initial-solution bakery.sol --seed 2 -o bakery.sol
   tourkit solve examples/bakery.par";
 
 /// The values of `--construction`.
 const CONSTRUCTIONS: [&str; 2] = ["nearest", "savings"];
 
 /// The arguments of the subcommand.
-static ARGUMENTS: [Argument; 12] = [
+static ARGUMENTS: [Argument; 15] = [
     Argument {
         name: "PROBLEM | PARAMETERS",
         help: "a problem file, or a parameter file like LKH's; - for standard input",
@@ -43,19 +47,19 @@ static ARGUMENTS: [Argument; 12] = [
     },
     Argument {
         name: "trials",
-        help: "trials per run, 1 to 1,000,000 [default: the number of cities]",
+        help: "trials per run, 1 to 1,000,000 [default: the number of cities; CVRP: 10 for each node]",
         form: Form::Long("N"),
         values: ValueParser::Unsigned(1, 1_000_000),
     },
     Argument {
         name: "candidates",
-        help: "length of the near lists, 1 to 100 [default: 5]",
+        help: "length of the near lists, 1 to 100 [default: 5; CVRP: 12]",
         form: Form::Long("N"),
         values: ValueParser::Unsigned(1, CANDIDATE_LIMIT as u64),
     },
     Argument {
         name: "runs",
-        help: "number of runs, 1 to 10,000 [default: 10]",
+        help: "number of runs, 1 to 10,000 [default: 10; CVRP: 1]",
         form: Form::Long("N"),
         values: ValueParser::Unsigned(1, 10_000),
     },
@@ -73,7 +77,7 @@ static ARGUMENTS: [Argument; 12] = [
     },
     Argument {
         name: "construction",
-        help: "how to construct the starting tours [default: nearest]",
+        help: "how to construct the starting tours (TSP only) [default: nearest]",
         form: Form::Long("HOW"),
         values: ValueParser::Names(&CONSTRUCTIONS),
     },
@@ -88,6 +92,24 @@ static ARGUMENTS: [Argument; 12] = [
         help: "start every run from this tour, or - for standard input (TSP only)",
         form: Form::Long("TOUR"),
         values: ValueParser::String,
+    },
+    Argument {
+        name: "initial-solution",
+        help: "start every run from these routes, or - for standard input (CVRP only)",
+        form: Form::Long("SOLUTION"),
+        values: ValueParser::String,
+    },
+    Argument {
+        name: "vehicles",
+        help: "exit with status 1 if the best solution has more routes than N (CVRP only)",
+        form: Form::Long("N"),
+        values: ValueParser::Unsigned(1, ROUTE_LIMIT as u64),
+    },
+    Argument {
+        name: "within-routes",
+        help: "move no customers between routes, as with PARAMETERS (CVRP only)",
+        form: Form::Flag,
+        values: ValueParser::Bool,
     },
     Argument {
         name: "progress",
@@ -122,6 +144,9 @@ pub fn asked<'a>(words: &ArgMatches<'a>) -> Option<Asked<'a>> {
         construction: words.get_str("construction"),
         or_segment: words.get_str("or-segment"),
         final_sweep: words.get_flag("final-sweep"),
+        initial_solution: words.get_str("initial-solution"),
+        vehicles: words.get_one::<u32>("vehicles"),
+        within_routes: words.get_flag("within-routes"),
     };
     Some(Asked::Solve {
         file: words.get_str("PROBLEM | PARAMETERS")?,

@@ -1,6 +1,6 @@
 -- The lines that `solve` prints are short, and so are its files.
-use Rattle.std.proofs.Common.{ℕ, ◌+◌, ◌*◌, ◌^◌, ◌≤◌, List, [], ◌∷◌, length, length-append, arith, ◌∙◌, ap, Result, Ok}
-use Rattle.std.proofs.Common.{Err, IfOk}
+use Rattle.std.proofs.Common.{ℕ, ◌^◌, ◌≤◌, List, [], ◌∷◌, ◌++◌, length, length-append, arith, ◌∙◌, ap}
+use Rattle.std.proofs.Common.{Option, Some, None, Result, Ok, Err, IfOk}
 use Rattle.std.specs.Prelude.{flat_map}
 use Rattle.std.specs.List.{All, concat}
 use Rattle.std.specs.Int.RustNames.{unsigned_abs}
@@ -11,6 +11,8 @@ use Rattle.tk_params.proofs.WordLengths.{word_short}
 use Rattle.tk_params.specs.Keys.{all_keys}
 use Rattle.tk_params.specs.declared.key.Key.{Key}
 use Rattle.tk_routes.specs.declared.solving.route_report.RouteReport.{RouteReport}
+use Rattle.tk_route_search.specs.declared.outcome.RouteRun.{RouteRun}
+use Rattle.tk_route_search.specs.declared.routes.SolvedRoutes.{SolvedRoutes}
 use Rattle.tk_solve.specs.Runs.{report_of}
 use Rattle.tk_solve.specs.Events.{Event}
 use Rattle.tk_solve.specs.SolvedTours.{IsSolved}
@@ -18,9 +20,11 @@ use Rattle.tk_solve.specs.Starts.{TourTask}
 use Rattle.tk_solve.specs.declared.outcome.RunReport.{RunReport}
 use Rattle.tk_solve.specs.declared.tour.SolvedTour.{SolvedTour}
 use Rattle.tk_engines.specs.declared.outcomes.search.SearchOutcome.{SearchOutcome}
-use Rattle.tk_engines.specs.declared.outcomes.search.SearchOutcome.TheVariants.{Routes}
+use Rattle.tk_engines.specs.declared.outcomes.search.SearchOutcome.TheVariants.{Between, Routes}
 use Rattle.tk_engines.specs.declared.outcomes.search.SearchOutcome.TheVariants.{Tour as Found}
-use Rattle.tk_engines.specs.Lines.SolveLines.{ignored_line, route_lines, run_line, run_lines, search_lines, tour_lines}
+use Rattle.tk_engines.specs.Lines.BetweenLines.{between_lines, route_run_line, start_line}
+use Rattle.tk_engines.specs.Lines.SolveLines.{ignored_line, route_lines, run_line, search_lines, tour_lines}
+use Rattle.tk_engines.proofs.PrintedLines.RunLines.{numbered_short}
 
 ignored_short : (key : Key) → length (ignored_line key) ≤ 50
 ignored_short key = let a = word_short key in simp length-append (omega arith)
@@ -33,23 +37,13 @@ run_short number r =
     let f = length_decimal r.totals.tests in let h = length_decimal r.totals.swaps in
     simp length-append (omega (arith, a, b, c, d, e, f, h))
 
-runs_short : (number : ℕ) (rs : List RunReport) → length (run_lines number rs) ≤ length rs * 600
-runs_short number [] = omega arith
-runs_short number (r ∷ rs) =
-    omega (
-      arith,
-      run_short number r,
-      runs_short (number + 1) rs,
-      length-append (run_line number r) (run_lines (number + 1) rs),
-    )
-
 all_ignored_short : (ks : List Key) → length ks ≤ length all_keys → length (flat_map ignored_line ks) ≤ 10000
 all_ignored_short ks few = omega (arith, few, length_flat_map ignored_line 50 ignored_short ks)
 
 tour_lines_short : (ks : List Key) (solved : SolvedTour) → length ks ≤ length all_keys →
     length solved.runs.items ≤ 10000 → length (tour_lines ks solved) ≤ 2 ^ 63
 tour_lines_short ks solved few runs =
-    let a = all_ignored_short ks few in let b = runs_short 1 solved.runs.items in
+    let a = all_ignored_short ks few in let b = numbered_short run_line 600 run_short 1 solved.runs.items in
     let c = length_decimal (unsigned_abs solved.length) in
     simp length-append (omega (arith, a, b, c, runs))
 
@@ -62,10 +56,35 @@ route_lines_short ks routes r few =
     let h = length_decimal r.swaps in
     simp length-append (omega (arith, a, b, c, d, e, f, h))
 
+start_short : (cost routes : ℕ) (candidates : Option ℕ) → length (start_line cost routes candidates) ≤ 300
+start_short cost routes None =
+    let a = length_decimal cost in let b = length_decimal routes in simp length-append (omega (arith, a, b))
+start_short cost routes (Some k) =
+    let a = length_decimal cost in let b = length_decimal routes in let c = length_decimal k in
+    simp length-append (omega (arith, a, b, c))
+
+pub route_run_short : (number : ℕ) (r : RouteRun) → length (route_run_line number r) ≤ 700
+route_run_short number r =
+    let a = length_decimal number in let b = length_decimal (unsigned_abs r.totals.start) in
+    let c = length_decimal (unsigned_abs r.best) in let d = length_decimal r.routes in
+    let e = length_decimal r.totals.trials in let f = length_decimal r.totals.moves in
+    let h = length_decimal r.totals.tests in let i = length_decimal r.totals.swaps in
+    simp length-append (omega (arith, a, b, c, d, e, f, h, i))
+
+between_lines_short : (ks : List Key) (solved : SolvedRoutes) → length ks ≤ length all_keys →
+    length solved.runs.items ≤ 10000 → length (flat_map ignored_line ks ++ between_lines solved) ≤ 2 ^ 63
+between_lines_short ks solved few runs =
+    let a = all_ignored_short ks few in
+    let b = start_short (unsigned_abs solved.start) solved.start_routes solved.candidates in
+    let c = numbered_short route_run_line 700 route_run_short 1 solved.runs.items in
+    let d = length_decimal (unsigned_abs solved.cost) in let e = length_decimal (length solved.routes.items) in
+    simp length-append (omega (arith, a, b, c, d, e, runs))
+
 pub search_lines_short : (ks : List Key) (o : SearchOutcome) → length ks ≤ length all_keys →
     length (search_lines ks o) ≤ 2 ^ 63
 search_lines_short ks (Found found) few = tour_lines_short ks found.solved few found.few_runs
 search_lines_short ks (Routes found) few = route_lines_short ks (length found.routes.items) found.report few
+search_lines_short ks (Between found) few = between_lines_short ks found.solved few found.few_runs
 
 -- as many reports as runs
 pub IfOk-count : {E : Type 0} (r : Result SolvedTour E) (task : TourTask) (Watched : List Event → Type 0) (most : ℕ) →

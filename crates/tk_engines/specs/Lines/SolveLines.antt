@@ -1,6 +1,6 @@
 -- The lines that `solve` prints: the keys that it does not use, a line for each run or two for the routes, and the best
 -- length.
-use Rattle.std.specs.Prelude.{ℕ, ◌+◌, List, [], ◌∷◌, ◌++◌, codes, decimal, flat_map, length}
+use Rattle.std.specs.Prelude.{ℕ, List, ◌++◌, codes, decimal, flat_map, length}
 use Rattle.std.specs.Int.RustNames.{unsigned_abs}
 use Rattle.tk_writers.specs.Written.{line}
 use Rattle.tk_params.specs.Keys as keys
@@ -8,17 +8,14 @@ use Rattle.tk_params.specs.declared.key.Key.{Key}
 use Rattle.tk_routes.specs.declared.solving.route_report.RouteReport.{RouteReport}
 use Rattle.tk_solve.specs.declared.outcome.RunReport.{RunReport}
 use Rattle.tk_solve.specs.declared.tour.SolvedTour.{SolvedTour}
+use Rattle.tk_engines.specs.Lines.BetweenLines.{between_lines}
+use Rattle.tk_engines.specs.Lines.Parts.{numbered, work_of}
 use Rattle.tk_engines.specs.declared.outcomes.search.SearchOutcome.{SearchOutcome}
-use Rattle.tk_engines.specs.declared.outcomes.search.SearchOutcome.TheVariants.{Tour, Routes}
+use Rattle.tk_engines.specs.declared.outcomes.search.SearchOutcome.TheVariants.{Tour, Routes, Between}
 
 -- a key that is read but not used
 abbrev pub ignored_line : Key → List ℕ
 ignored_line key = line (codes "ignored " ++ keys.key_word key)
-
--- the counts of moves, tests and swaps of descents
-abbrev pub work_of : ℕ → ℕ → ℕ → List ℕ
-work_of moves tests swaps =
-    codes ", moves " ++ decimal moves ++ codes ", tests " ++ decimal tests ++ codes ", swaps " ++ decimal swaps
 
 -- the line of a run, numbered from 1
 abbrev pub run_line : ℕ → RunReport → List ℕ
@@ -30,8 +27,7 @@ run_line number report =
 
 -- the lines of runs, numbered from this number
 abbrev pub run_lines : ℕ → List RunReport → List ℕ
-run_lines number [] = []
-run_lines number (r ∷ rs) = run_line number r ++ run_lines (number + 1) rs
+run_lines = numbered run_line
 
 abbrev pub best_line : ℕ → List ℕ
 best_line length = line (codes "best " ++ decimal length)
@@ -60,3 +56,4 @@ route_lines ignored routes report =
 abbrev pub search_lines : List Key → SearchOutcome → List ℕ
 search_lines ignored (Tour found) = tour_lines ignored found.solved
 search_lines ignored (Routes found) = route_lines ignored (length found.routes.items) found.report
+search_lines ignored (Between found) = flat_map ignored_line ignored ++ between_lines found.solved

@@ -122,8 +122,11 @@ fn search_from<V: Watch>(
     }
 }
 
-/// Runs the search that parameters specify on a problem; `NotForType` if one of their keys does not apply to it.
-fn search_problem<I: Source, V: Watch>(
+/// Runs the search that parameters specify on a problem, like [`search_outcome`] on its text.
+///
+/// # Errors
+/// As for `search_outcome`, without those of the problem text.
+pub fn search_problem<I: Source, V: Watch>(
     alloc: Global,
     params: &Params,
     problem: Problem,

@@ -1,16 +1,17 @@
 //! The search for a tour or for routes, and its output.
-ghost use Rattle.std.specs.Prelude.{◌≡◌, ◌⊎◌, IfErr, OnErr};
+ghost use Rattle.std.specs.Prelude.{◌≡◌, ◌≤◌, ◌⊎◌, IfErr, OnErr, length};
+ghost use Rattle.tk_params.specs.Keys.{all_keys};
 ghost use Rattle.tk_writers.specs.Puts.{Writes};
 ghost use Rattle.tk_writers.specs.Sinks.{IsBroken};
 ghost use Rattle.tk_engines.specs.Engine.{AtWrite, BeforeSecond, IsUnread, UnlessWrite};
-ghost use Rattle.tk_engines.specs.Solve.{AreUntouched, BeforeSearch, Solves, WritesFiles, files_of, found_text};
+ghost use Rattle.tk_engines.specs.Solve.{AreUntouched, BeforeSearch, Solves, WritesFiles, files_with, found_text};
 
 use crate::engines::search::search_outcome;
 use crate::fault::Fault;
 use crate::lines::solve_lines::write_search_lines;
 use crate::outcomes::search::SearchOutcome;
 use std::alloc::Global;
-use tk_params::Params;
+use tk_params::{Key, Params};
 use tk_solve::Watch;
 use tk_words::Source;
 use tk_writers::{Sink, WriteFault, write_solution, write_tour};
@@ -31,22 +32,26 @@ pub fn write_found<F: Sink>(file: &mut F, outcome: &SearchOutcome) -> Result<(),
             &found.solved.cities,
         ),
         SearchOutcome::Routes(found) => write_solution(file, &found.routes, found.report.after),
+        SearchOutcome::Between(found) => {
+            write_solution(file, &found.solved.routes, found.solved.cost)
+        }
     }
 }
 
 /// Writes the text of the tour or of the solution that was found, and then the lines on the search.
-fn write_files<F: Sink, W: Sink>(
+pub(crate) fn write_files<F: Sink, W: Sink>(
     file: &mut F,
     out: &mut W,
-    params: &Params,
+    ignored: &[Key],
     outcome: &SearchOutcome,
 ) -> Result<(), WriteFault>
+    requires { length ignored.now ≤ length all_keys }
     ensures text { WritesFiles F.Sink W.Sink file.old file.new out.old out.new
-        result (files_of params.now outcome.now) }
+        result (files_with ignored.now outcome.now) }
     ensures failed { OnErr result (IsBroken F.Sink file.new ⊎ IsBroken W.Sink out.new) }
 {
     write_found(file, outcome)?;
-    write_search_lines(out, params.ignored(), outcome)
+    write_search_lines(out, ignored, outcome)
 }
 
 /// Runs the search that parameters specify: for a short tour of a TSP, or for short routes of a CVRP. `file` gets the
@@ -80,7 +85,7 @@ pub fn solve_engine<P: Source, I: Source, F: Sink, W: Sink, V: Watch>(
     ensures unwatched { IfErr result (BeforeSearch (watch.new ≡ watch.old)) }
 {
     let outcome = search_outcome(alloc, params, problem, initial, watch)?;
-    match write_files(file, out, params, &outcome) {
+    match write_files(file, out, params.ignored(), &outcome) {
         Ok(()) => Ok(()),
         Err(fault) => Err(Fault::Write(fault)),
     }

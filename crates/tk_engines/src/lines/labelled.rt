@@ -2,6 +2,7 @@
 ghost use Rattle.std.specs.Prelude.{◌++◌, codes, decimal};
 ghost use Rattle.tk_writers.specs.Pens.{Puts};
 ghost use Rattle.tk_writers.specs.Written.{line};
+ghost use Rattle.tk_engines.specs.Lines.Parts.{work_of};
 
 use tk_writers::{Pen, Sink};
 
@@ -11,6 +12,18 @@ pub(crate) fn put_labelled<W: Sink>(pen: &mut Pen<'_, W>, label: &[u8], number: 
 {
     pen.put(label);
     pen.put_number(number);
+}
+
+/// Writes the counts of moves, tests and swaps of descents.
+pub(crate) fn put_work<W: Sink>(pen: &mut Pen<'_, W>, moves: u128, tests: u128, swaps: u128)
+    ensures { Puts W.Sink pen.old pen.new (work_of moves tests swaps) }
+{
+    pen.put(b", moves ");
+    pen.put_wide(moves);
+    pen.put(b", tests ");
+    pen.put_wide(tests);
+    pen.put(b", swaps ");
+    pen.put_wide(swaps);
 }
 
 /// Writes the line of a fault at a position of a list, with the number that it is about.

@@ -6,9 +6,10 @@ ghost use Rattle.tk_writers.specs.Puts.{Writes};
 ghost use Rattle.tk_writers.specs.Sinks.{IsBroken};
 ghost use Rattle.tk_params.specs.Keys.{all_keys};
 ghost use Rattle.tk_engines.specs.Lines.SolveLines.{best_line, ignored_line, improved_line, route_lines, run_line};
-ghost use Rattle.tk_engines.specs.Lines.SolveLines.{run_lines, savings_line, search_lines, tour_lines, work_of};
+ghost use Rattle.tk_engines.specs.Lines.SolveLines.{run_lines, savings_line, search_lines, tour_lines};
 
-use crate::lines::labelled::put_labelled;
+use crate::lines::between_lines::put_between_lines;
+use crate::lines::labelled::{put_labelled, put_work};
 use crate::outcomes::search::SearchOutcome;
 use tk_params::Key;
 use tk_routes::RouteReport;
@@ -25,18 +26,6 @@ fn put_ignored<W: Sink>(pen: &mut Pen<'_, W>, ignored: &[Key])
         pen.put(key.word().as_bytes());
         pen.put(b"\n");
     }
-}
-
-/// Writes the counts of moves, tests and swaps of descents.
-fn put_work<W: Sink>(pen: &mut Pen<'_, W>, moves: u128, tests: u128, swaps: u128)
-    ensures { Puts W.Sink pen.old pen.new (work_of moves tests swaps) }
-{
-    pen.put(b", moves ");
-    pen.put_wide(moves);
-    pen.put(b", tests ");
-    pen.put_wide(tests);
-    pen.put(b", swaps ");
-    pen.put_wide(swaps);
 }
 
 /// Writes the line of a run, numbered from 1, to a pen.
@@ -144,6 +133,10 @@ fn put_search_lines<W: Sink>(pen: &mut Pen<'_, W>, ignored: &[Key], outcome: &Se
         SearchOutcome::Tour(found) => put_tour_lines(pen, ignored, &found.solved),
         SearchOutcome::Routes(found) => {
             put_route_lines(pen, ignored, found.routes.len() as u64, &found.report);
+        }
+        SearchOutcome::Between(found) => {
+            put_ignored(pen, ignored);
+            put_between_lines(pen, &found.solved);
         }
     }
 }

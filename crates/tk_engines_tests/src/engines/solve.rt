@@ -138,11 +138,11 @@ fn bakery_outcome(rt: &impl Abort, alloc: Global) -> SearchOutcome {
     )
 }
 
-/// The costs of routes before and after their improvement; 0 for a tour.
+/// The costs of routes before and after their improvement; 0 for other outcomes.
 fn costs_in(outcome: &SearchOutcome) -> [i64; 2] {
     match outcome {
         SearchOutcome::Routes(found) => [found.report.before, found.report.after],
-        SearchOutcome::Tour(_) => [0, 0],
+        SearchOutcome::Tour(_) | SearchOutcome::Between(_) => [0, 0],
     }
 }
 

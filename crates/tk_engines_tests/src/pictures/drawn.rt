@@ -58,7 +58,7 @@ stroke-linejoin=\"round\" stroke-width=\"20\">
 6666,0
 10000,0
 \"/>
-<polygon stroke=\"#009E73\" points=\"
+<polygon stroke=\"#786E00\" points=\"
 6666,0
 0,0
 \"/>
@@ -67,11 +67,15 @@ M0,0h0
 M6666,0h0
 M10000,0h0
 \"/>
-<path fill=\"black\" d=\"M6666,0m-80,-80h160v160h-160z\"/>
 <g font-family=\"sans-serif\" font-weight=\"bold\" text-anchor=\"middle\" font-size=\"140\">
+<g class=\"halo\" aria-hidden=\"true\" stroke=\"white\" stroke-width=\"40\">
 <text transform=\"translate(10000,0)\" dy=\"-.4em\" fill=\"#0072B2\">1</text>
-<text transform=\"translate(0,0)\" dy=\"-.4em\" fill=\"#009E73\">3</text>
+<text transform=\"translate(0,0)\" dy=\"-.4em\" fill=\"#786E00\">3</text>
 </g>
+<text transform=\"translate(10000,0)\" dy=\"-.4em\" fill=\"#0072B2\">1</text>
+<text transform=\"translate(0,0)\" dy=\"-.4em\" fill=\"#786E00\">3</text>
+</g>
+<path fill=\"black\" d=\"M6666,0m-80,-80h160v160h-160z\"/>
 </g>
 </svg>
 ";

@@ -41,6 +41,10 @@ const REST: &[u8] = b"</div>
 2 3
 2 1
 </script>
+<script type=\"text/plain\" id=\"legs\">
+1 1 1
+3 2 2
+</script>
 <p>tools
 <script>
 run();

@@ -1,8 +1,9 @@
 //! The subcommand `checksol`.
+use crate::commands::check::FOUND;
 use crate::input::open_two;
-use crate::objects::{invalid, route_object, valid};
-use crate::printed::{Unprinted, end, print_json};
-use crate::report::{self, FOUND};
+use crate::objects::route_object;
+use crate::printed::{Unprinted, print_judged};
+use crate::refusal::Refusal;
 use std::process::ExitCode;
 use tk_engines::{route_outcome, write_route_verdict};
 use tk_routes::RouteVerdict;
@@ -10,33 +11,33 @@ use tk_words::FromRead;
 use tk_writers::ToWrite;
 
 /// `checksol PROBLEM SOLUTION [--json]`. Both files are opened before either is read.
-pub fn checksol_command(
+///
+/// # Errors
+/// Why it stopped.
+pub fn checksol_command<'a>(
     rt: &HostRuntime,
-    problem_file: &str,
-    solution_file: &str,
+    problem_file: &'a str,
+    solution_file: &'a str,
     json: bool,
-) -> ExitCode {
-    let (problem, solution) = match open_two(rt, problem_file, solution_file) {
-        Ok(opened) => opened,
-        Err(status) => return status,
-    };
+) -> Result<ExitCode, Refusal<'a>> {
+    let (problem, solution) = open_two(rt, problem_file, solution_file)?;
     let mut problem = FromRead::new(problem);
     match route_outcome(rt.alloc(), &mut problem, &mut FromRead::new(solution)) {
-        Ok(verdict) => end(rt, print(rt, verdict, json), status_of(verdict)),
-        Err(fault) => report::stopped_by_claim(rt, problem_file, solution_file, &fault),
+        Ok(verdict) => {
+            print(rt, verdict, json)?;
+            Ok(status_of(verdict))
+        }
+        Err(fault) => Err(Refusal::stopped_by_claim(problem_file, solution_file, &fault)),
     }
 }
 
 /// Prints the verdict, as a line or as JSON.
 fn print(rt: &HostRuntime, verdict: RouteVerdict, json: bool) -> Result<(), Unprinted> {
-    if !json {
-        write_route_verdict(&mut ToWrite::new(rt.stdout()), verdict)?;
-        return Ok(());
+    if json {
+        return print_judged(rt, route_object(verdict));
     }
-    match route_object(verdict) {
-        Ok(values) => print_json(rt, &valid(values)),
-        Err(fault) => print_json(rt, &invalid(fault)),
-    }
+    write_route_verdict(&mut ToWrite::new(rt.stdout()), verdict)?;
+    Ok(())
 }
 
 /// The exit status: 0 for valid routes, 1 for a fault.

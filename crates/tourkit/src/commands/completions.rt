@@ -1,15 +1,18 @@
 //! The option `--completions`.
 use crate::embedded::completions::{BASH, FISH, ZSH};
-use crate::report;
+use crate::refusal::Refusal;
 use std::io::Write;
 use std::process::ExitCode;
 use tk_command_line::Shell;
 
 /// `--completions SHELL`.
-pub fn completions_command(rt: &HostRuntime, shell: Shell) -> ExitCode {
+///
+/// # Errors
+/// `Refusal::Unwritten` if the completions cannot be written.
+pub fn completions_command(rt: &HostRuntime, shell: Shell) -> Result<ExitCode, Refusal<'static>> {
     match rt.stdout().write_all(completions_of(shell)) {
-        Ok(()) => ExitCode::SUCCESS,
-        Err(_) => report::write_fault(rt),
+        Ok(()) => Ok(ExitCode::SUCCESS),
+        Err(_) => Err(Refusal::Unwritten),
     }
 }
 

@@ -1,7 +1,7 @@
 //! The subcommand `explain`.
 use crate::explained_text::{Unread, read_explained};
 use crate::input::open;
-use crate::report;
+use crate::refusal::{Misfit, Refusal};
 use crate::shown::shown_on_output;
 use std::fs;
 use std::io::Write;
@@ -10,15 +10,21 @@ use tk_diagnosis::{FileFault, kind_of};
 use tk_explain::{fault_page, file_page, is_number, line_page, unread_fault};
 
 /// `explain WHAT [LINE]`. Without a line, WHAT can be the number or the name of a fault; otherwise it is a file.
-pub fn explain_command(rt: &HostRuntime, what: &str, line: Option<u64>) -> ExitCode {
+///
+/// # Errors
+/// Why it stopped.
+pub fn explain_command<'a>(
+    rt: &HostRuntime,
+    what: &'a str,
+    line: Option<u64>,
+) -> Result<ExitCode, Refusal<'a>> {
     if line.is_some() {
         return explain_file(rt, what, line);
     }
-    match fault_page(rt.alloc(), what) {
-        Ok(Some(page)) => print_page(rt, &page),
-        Ok(None) if is_only_number(rt, what) => report::no_such_fault(rt, what),
-        Ok(None) => explain_file(rt, what, None),
-        Err(_) => report::no_memory(rt),
+    match fault_page(rt.alloc(), what)? {
+        Some(page) => print_page(rt, &page),
+        None if is_only_number(rt, what) => Err(Refusal::Unfit(what, Misfit::NoSuchFault)),
+        None => explain_file(rt, what, None),
     }
 }
 
@@ -28,45 +34,46 @@ fn is_only_number(rt: &HostRuntime, what: &str) -> bool {
 }
 
 /// Explains a file, or one of its lines.
-fn explain_file(rt: &HostRuntime, name: &str, line: Option<u64>) -> ExitCode {
-    let mut input = match open(rt, name) {
-        Ok(input) => input,
-        Err(status) => return status,
-    };
+fn explain_file<'a>(
+    rt: &HostRuntime,
+    name: &'a str,
+    line: Option<u64>,
+) -> Result<ExitCode, Refusal<'a>> {
+    let mut input = open(rt, name)?;
     match read_explained(rt.alloc(), name, line, &mut input) {
         Ok(text) => print_text(rt, name, &text, line),
-        Err(Unread::Failed(text)) => tell_unread(rt, name, &text),
-        Err(Unread::NoMemory) => report::no_memory(rt),
+        Err(Unread::Failed(text)) => Err(unread(name, &text)),
+        Err(Unread::NoMemory) => Err(Refusal::NoMemory),
     }
 }
 
 /// Prints the explanation of a file with this text, or of one of its lines.
-fn print_text(rt: &HostRuntime, name: &str, text: &[u8], line: Option<u64>) -> ExitCode {
-    let Ok(name) = format!(in rt.alloc(); "{}", shown_on_output(rt, name)) else {
-        return report::no_memory(rt);
-    };
+fn print_text<'a>(
+    rt: &HostRuntime,
+    name: &str,
+    text: &[u8],
+    line: Option<u64>,
+) -> Result<ExitCode, Refusal<'a>> {
+    let name = format!(in rt.alloc(); "{}", shown_on_output(rt, name))?;
     let page = match line {
-        Some(line) => line_page(rt.alloc(), &name, text, line),
-        None => file_page(rt.alloc(), &name, text),
+        Some(line) => line_page(rt.alloc(), &name, text, line)?,
+        None => file_page(rt.alloc(), &name, text)?,
     };
-    match page {
-        Ok(page) => print_page(rt, &page.text),
-        Err(_) => report::no_memory(rt),
-    }
+    print_page(rt, &page.text)
 }
 
-/// Reports that a file could not be read to its end.
-fn tell_unread(rt: &HostRuntime, name: &str, text: &[u8]) -> ExitCode {
+/// The refusal of a file that could not be read to its end.
+fn unread<'a>(name: &'a str, text: &[u8]) -> Refusal<'a> {
     match unread_fault(kind_of(text, name), text) {
-        FileFault::Text(fault) => report::text_fault(rt, name, &fault),
-        FileFault::Parameters(fault) => report::param_fault(rt, name, &fault),
+        FileFault::Text(fault) => Refusal::Text(name, fault),
+        FileFault::Parameters(fault) => Refusal::Parameters(name, fault),
     }
 }
 
 /// Prints an explanation.
-fn print_page(rt: &HostRuntime, page: &str) -> ExitCode {
+fn print_page<'a>(rt: &HostRuntime, page: &str) -> Result<ExitCode, Refusal<'a>> {
     match rt.stdout().write_all(page.as_bytes()) {
-        Ok(()) => ExitCode::SUCCESS,
-        Err(_) => report::write_fault(rt),
+        Ok(()) => Ok(ExitCode::SUCCESS),
+        Err(_) => Err(Refusal::Unwritten),
     }
 }

@@ -2,34 +2,35 @@
 use crate::commands::{check, checksol};
 use crate::embedded::page::{HEAD, SCRIPT, STYLE, TOOLS};
 use crate::input::{open, open_two};
-use crate::report;
+use crate::refusal::Refusal;
 use std::process::ExitCode;
 use tk_engines::{Form, Parts, Plotted, plot_engine};
 use tk_words::{FromRead, Source};
 use tk_writers::ToWrite;
 
 /// `plot PROBLEM [TOUR | SOLUTION] [--html]`. Both files are opened before either is read.
-pub fn plot_command(
+///
+/// # Errors
+/// Why it stopped.
+pub fn plot_command<'a>(
     rt: &HostRuntime,
-    problem_file: &str,
-    claim_file: Option<&str>,
+    problem_file: &'a str,
+    claim_file: Option<&'a str>,
     html: bool,
-) -> ExitCode {
+) -> Result<ExitCode, Refusal<'a>> {
     let form = if html { page() } else { Form::Svg };
     let Some(claim_file) = claim_file else {
         return plot_alone(rt, problem_file, form);
     };
-    match open_two(rt, problem_file, claim_file) {
-        Ok((problem, claim)) => draw(
-            rt,
-            &mut FromRead::new(problem),
-            problem_file,
-            &mut FromRead::new(claim),
-            Some(claim_file),
-            form,
-        ),
-        Err(status) => status,
-    }
+    let (problem, claim) = open_two(rt, problem_file, claim_file)?;
+    draw(
+        rt,
+        &mut FromRead::new(problem),
+        problem_file,
+        &mut FromRead::new(claim),
+        Some(claim_file),
+        form,
+    )
 }
 
 /// The HTML page, from the files that are embedded in the program.
@@ -43,30 +44,31 @@ fn page() -> Form<'static> {
 }
 
 /// `plot PROBLEM`, with or without `--html`.
-fn plot_alone(rt: &HostRuntime, problem_file: &str, form: Form<'_>) -> ExitCode {
-    match open(rt, problem_file) {
-        Ok(problem) => draw(
-            rt,
-            &mut FromRead::new(problem),
-            problem_file,
-            &mut FromRead::new(b"".as_slice()),
-            None,
-            form,
-        ),
-        Err(status) => status,
-    }
+fn plot_alone<'a>(
+    rt: &HostRuntime,
+    problem_file: &'a str,
+    form: Form<'_>,
+) -> Result<ExitCode, Refusal<'a>> {
+    let problem = open(rt, problem_file)?;
+    draw(
+        rt,
+        &mut FromRead::new(problem),
+        problem_file,
+        &mut FromRead::new(b"".as_slice()),
+        None,
+        form,
+    )
 }
 
-/// Draws a problem, with the tour or the routes of the second file if there is one. Returns the exit status, after a
-/// message if there is a fault.
-fn draw<P: Source, C: Source>(
+/// Draws a problem, with the tour or the routes of the second file if there is one. Returns the exit status.
+fn draw<'a, P: Source, C: Source>(
     rt: &HostRuntime,
     problem: &mut P,
-    problem_file: &str,
+    problem_file: &'a str,
     claim: &mut C,
-    claim_file: Option<&str>,
+    claim_file: Option<&'a str>,
     form: Form<'_>,
-) -> ExitCode {
+) -> Result<ExitCode, Refusal<'a>> {
     let mut out = ToWrite::new(rt.stdout());
     let mut told = ToWrite::new(rt.stderr());
     match plot_engine(
@@ -78,10 +80,10 @@ fn draw<P: Source, C: Source>(
         &mut out,
         &mut told,
     ) {
-        Ok(plotted) => status_of(plotted),
+        Ok(plotted) => Ok(status_of(plotted)),
         Err(fault) => {
             let claim_file = claim_file.unwrap_or(problem_file);
-            report::stopped_by_claim(rt, problem_file, claim_file, &fault)
+            Err(Refusal::stopped_by_claim(problem_file, claim_file, &fault))
         }
     }
 }

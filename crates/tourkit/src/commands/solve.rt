@@ -1,48 +1,61 @@
 //! The subcommand `solve`.
+use crate::between_object::BetweenObject;
+use crate::commands::check::FOUND;
 use crate::commands::solve_options::{is_parameter_file, is_problem_file, params_of};
+use crate::commands::solve_outcome::{Stop, outcome_of};
 use crate::file_id::FileId;
 use crate::input::open;
 use crate::objects::{RouteSearchObject, TourSearchObject};
 use crate::output::save;
-use crate::printed::{Unprinted, print_json};
+use crate::printed::{Unprinted, print_json, print_line};
+use crate::refusal::{KeyMisfit, Misfit, Refusal};
 use crate::report;
 use crate::search::Search;
+use crate::vehicles::MissingVehicles;
 use crate::watching::SearchWatch;
 use crate::written::{Kept, check_written, note_slips};
 use std::io::IsTerminal;
 use std::process::ExitCode;
 use tk_command_line::{STANDARD, SearchOptions, Shown};
-use tk_engines::{Fault, SearchOutcome, search_outcome, write_found, write_search_lines};
+use tk_engines::{Fault, SearchOutcome, write_found, write_search_lines};
 use tk_params::{ParamFault, ParamKind, Params, read_params};
 use tk_words::{FromRead, Source, TextKind};
 use tk_writers::ToWrite;
 
 /// `solve PARAMETERS`, or with options `solve PROBLEM`.
+///
+/// # Errors
+/// Why it stopped.
 pub fn solve_command<'a>(
-    rt: &HostRuntime,
+    rt: &'a HostRuntime,
     file: &'a str,
     options: Option<SearchOptions<'a>>,
     shown: Shown,
-) -> ExitCode {
+) -> Result<ExitCode, Refusal<'a>> {
     match options {
         Some(options) => solve_problem(rt, file, &options, shown),
         None => solve_parameters(rt, file, shown),
     }
 }
 
-/// Runs the search that a parameter file specifies.
-fn solve_parameters(rt: &HostRuntime, file: &str, shown: Shown) -> ExitCode {
-    let parameters = match open(rt, file) {
-        Ok(parameters) => parameters,
-        Err(status) => return status,
-    };
+/// Runs the search that a parameter file specifies. If it stops, that is reported here: only the parameters have the
+/// names of its files.
+fn solve_parameters<'a>(
+    rt: &'a HostRuntime,
+    file: &'a str,
+    shown: Shown,
+) -> Result<ExitCode, Refusal<'a>> {
+    let parameters = open(rt, file)?;
     let parameters_id = parameters.id(rt);
     match read_params(rt.alloc(), &mut FromRead::new(parameters)) {
-        Ok(params) => solve(rt, &Search::by_keys(file, &params), parameters_id, shown),
-        Err(fault) if is_problem(rt, file, parameters_id, &fault) => {
-            report::problem_for_parameters(rt, file, &fault)
+        Ok(params) => {
+            let search = Search::by_keys(file, &params);
+            Ok(report::end(rt, solve(rt, &search, parameters_id, shown), shown.json))
         }
-        Err(fault) => report::param_fault(rt, file, &fault),
+        Err(fault) if is_problem(rt, file, parameters_id, &fault) => {
+            Err(Refusal::ProblemForParameters(file, fault))
+        }
+        Err(fault) => Err(Refusal::Parameters(file, fault)),
     }
 }
 
@@ -58,41 +71,34 @@ fn is_problem(rt: &HostRuntime, file: &str, id: Option<FileId>, fault: &ParamFau
 
 /// Runs the search that options specify.
 fn solve_problem<'a>(
-    rt: &HostRuntime,
+    rt: &'a HostRuntime,
     problem: &'a str,
     options: &SearchOptions<'a>,
     shown: Shown,
-) -> ExitCode {
-    match params_of(rt, options) {
-        Ok(params) => solve(
-            rt,
-            &Search::by_options(problem, &params, options),
-            None,
-            shown,
-        ),
-        Err(status) => status,
-    }
+) -> Result<ExitCode, Refusal<'a>> {
+    let params = params_of(rt, options)?;
+    solve(
+        rt,
+        &Search::by_options(problem, &params, options),
+        None,
+        shown,
+    )
 }
 
 /// Runs a search. Before reading the problem or the initial tour, it opens both files and checks the output file.
-fn solve(
-    rt: &HostRuntime,
-    search: &Search<'_, '_>,
+fn solve<'a>(
+    rt: &'a HostRuntime,
+    search: &Search<'_, 'a>,
     parameters: Option<FileId>,
     shown: Shown,
-) -> ExitCode {
-    let (problem, initial) = match search.open(rt) {
-        Ok(opened) => opened,
-        Err(status) => return status,
-    };
+) -> Result<ExitCode, Refusal<'a>> {
+    let (problem, initial) = search.open(rt)?;
     let kept = Kept {
         parameters,
         problem: problem.id(rt),
         initial: initial.as_ref().and_then(|initial| initial.id(rt)),
     };
-    if let Err(status) = check_written(rt, search, kept) {
-        return status;
-    }
+    check_written(rt, search, kept)?;
     let mut problem = FromRead::new(problem);
     match initial {
         Some(initial) => begin(
@@ -115,104 +121,126 @@ fn solve(
 }
 
 /// Runs the search, after setting up its observer.
-fn begin<P: Source, I: Source>(
-    rt: &HostRuntime,
-    search: &Search<'_, '_>,
+fn begin<'a, P: Source, I: Source>(
+    rt: &'a HostRuntime,
+    search: &Search<'_, 'a>,
     kept: Kept,
     shown: Shown,
     problem: &mut P,
     initial: &mut I,
-) -> ExitCode {
-    let Ok(mut watch) = SearchWatch::new(rt, search, kept, shown.progress) else {
-        return report::no_memory(rt);
-    };
-    match search_outcome(rt.alloc(), search.params, problem, initial, &mut watch) {
+) -> Result<ExitCode, Refusal<'a>> {
+    let mut watch = SearchWatch::new(rt, search, kept, shown.progress)?;
+    match outcome_of(rt.alloc(), search, problem, initial, &mut watch) {
         Ok(outcome) => finish(rt, search, &outcome, shown.json, &mut watch),
-        Err(fault) => stopped(rt, search, kept, &fault),
+        Err(Stop::Fault(fault)) => Err(stopped(rt, search, kept, &fault)),
+        Err(Stop::NotForType(option)) => {
+            Err(Refusal::UnfitKey(search.problem, option, KeyMisfit::Type))
+        }
     }
 }
 
 /// Prints the outcome of a search, and saves the tour or the routes. The text for the output file is first written to
 /// memory.
-fn finish(
+fn finish<'a>(
     rt: &HostRuntime,
-    search: &Search<'_, '_>,
+    search: &Search<'_, 'a>,
     outcome: &SearchOutcome,
     json: bool,
     watch: &mut SearchWatch<'_>,
-) -> ExitCode {
+) -> Result<ExitCode, Refusal<'a>> {
     let mut file = ToWrite::new(Vec::new(rt.alloc()));
     if write_found(&mut file, outcome).is_err() {
-        return report::no_memory(rt);
+        return Err(Refusal::NoMemory);
     }
-    match print(rt, search.params, outcome, json) {
-        Ok(()) => save_found(rt, search, &file.inner, watch),
-        Err(reason) => unprinted(rt, reason, &file.inner, watch),
+    match print(rt, search, outcome, json) {
+        Ok(()) => Ok(save_found(rt, search, outcome, &file.inner, watch)),
+        Err(Unprinted::NoMemory) => Err(Refusal::NoMemory),
+        Err(Unprinted::Unwritten) => Err(unwritten(search, &file.inner, watch)),
     }
 }
 
 /// Prints the outcome of a search, as lines or as JSON.
 fn print(
     rt: &HostRuntime,
-    params: &Params,
+    search: &Search<'_, '_>,
     outcome: &SearchOutcome,
     json: bool,
 ) -> Result<(), Unprinted> {
-    let ignored = params.ignored();
-    if !json {
-        write_search_lines(&mut ToWrite::new(rt.stdout()), ignored, outcome)?;
-        return Ok(());
+    if json {
+        return print_object(rt, search, outcome);
     }
+    write_search_lines(
+        &mut ToWrite::new(rt.stdout()),
+        search.params.ignored(),
+        outcome,
+    )?;
+    match MissingVehicles::of(search, outcome) {
+        Some(missing) => print_line(rt, &missing),
+        None => Ok(()),
+    }
+}
+
+/// Prints the outcome of a search as JSON.
+fn print_object(
+    rt: &HostRuntime,
+    search: &Search<'_, '_>,
+    outcome: &SearchOutcome,
+) -> Result<(), Unprinted> {
+    let ignored = search.params.ignored();
     match outcome {
         SearchOutcome::Tour(found) => {
             print_json(rt, &TourSearchObject::of(rt.alloc(), ignored, found)?)
         }
-        SearchOutcome::Routes(found) => {
-            print_json(rt, &RouteSearchObject::of(rt.alloc(), ignored, found)?)
-        }
+        SearchOutcome::Routes(found) => print_json(
+            rt,
+            &RouteSearchObject::of(rt.alloc(), ignored, found, search.vehicles())?,
+        ),
+        SearchOutcome::Between(found) => print_json(
+            rt,
+            &BetweenObject::of(rt.alloc(), ignored, found, search.vehicles())?,
+        ),
     }
 }
 
-/// Reports that the outcome could not be printed. If a write to standard output failed, the result is kept next to the
-/// output file.
-fn unprinted(
+/// The refusal if a write to standard output failed. The result is kept next to the output file if possible.
+fn unwritten<'a>(search: &Search<'_, 'a>, text: &[u8], watch: &mut SearchWatch<'_>) -> Refusal<'a> {
+    match search.written_file() {
+        Some(output) if watch.keep_result(text).is_some() => Refusal::UnwrittenButKept(output),
+        _ => Refusal::Unwritten,
+    }
+}
+
+/// Why a search stopped before it wrote anything.
+fn stopped<'a>(
     rt: &HostRuntime,
-    reason: Unprinted,
-    text: &[u8],
-    watch: &mut SearchWatch<'_>,
-) -> ExitCode {
-    if reason == Unprinted::NoMemory {
-        return report::no_memory(rt);
-    }
-    match watch.keep_result(text) {
-        Some(name) => report::write_fault_but_kept(rt, name),
-        None => report::write_fault(rt),
-    }
-}
-
-/// Reports why a search stopped before it wrote anything.
-fn stopped(rt: &HostRuntime, search: &Search<'_, '_>, kept: Kept, fault: &Fault) -> ExitCode {
+    search: &Search<'_, 'a>,
+    kept: Kept,
+    fault: &Fault,
+) -> Refusal<'a> {
     match fault {
-        Fault::Tour(_) | Fault::Initial(_) => {
-            report::stopped(rt, search.initial.unwrap_or(""), fault)
+        Fault::Tour(_) | Fault::Solution(_) | Fault::Initial(_) | Fault::InitialRoutes(_) => {
+            Refusal::stopped(search.initial.unwrap_or(""), fault)
         }
-        Fault::NotForType(key) => report::not_for_type(rt, search.problem, search.named(*key)),
+        Fault::NotForType(key) => {
+            Refusal::UnfitKey(search.problem, search.named(*key), KeyMisfit::Type)
+        }
         Fault::Problem(text)
-            if search.by_options
+            if search.is_by_options()
                 && !matches!(text.kind, TextKind::Read | TextKind::NoMemory)
                 && kept.problem.is_some()
                 && is_parameter_file(rt, search.problem) => {
-            report::options_for_parameters(rt, search.problem)
+            Refusal::Unfit(search.problem, Misfit::ParameterFile)
         }
-        fault => report::stopped(rt, search.problem, fault),
+        fault => Refusal::stopped(search.problem, fault),
     }
 }
 
-/// Writes the text to the output file, if there is one, and notes file names that look like mistakes. After that, the
-/// file with the best tour so far is removed, unless the write failed.
+/// Writes the text to the output file, if there is one, and notes file names that look like mistakes. The file with the
+/// best result so far is removed, unless the write failed. That is reported here, since the outcome has been printed.
 fn save_found(
     rt: &HostRuntime,
     search: &Search<'_, '_>,
+    outcome: &SearchOutcome,
     text: &[u8],
     watch: &SearchWatch<'_>,
 ) -> ExitCode {
@@ -220,12 +248,21 @@ fn save_found(
         Some(name) => save(rt, name, text),
         None => Ok(()),
     };
-    note_slips(rt, search);
-    match saved {
+    let status = match saved {
         Ok(()) => {
             watch.end();
-            ExitCode::SUCCESS
+            status_of(search, outcome)
         }
-        Err(status) => status,
+        Err(refusal) => report::tell(rt, &refusal),
+    };
+    note_slips(rt, search);
+    status
+}
+
+/// The exit status of a search that has ended: 1 if there are more routes than vehicles.
+fn status_of(search: &Search<'_, '_>, outcome: &SearchOutcome) -> ExitCode {
+    match MissingVehicles::of(search, outcome) {
+        Some(_) => ExitCode::from(FOUND),
+        None => ExitCode::SUCCESS,
     }
 }

@@ -1,10 +1,9 @@
 //! A search that options request, without a parameter file.
 
 use crate::input::path_of;
-use crate::report;
+use crate::refusal::Refusal;
 use std::fs::File;
 use std::io::Read;
-use std::process::ExitCode;
 use tk_command_line::SearchOptions;
 use tk_diagnosis::{Kind, begins_with_key, kind_of};
 use tk_params::{Key, ParamKind, Params, ParamsBuilder};
@@ -30,25 +29,27 @@ static SETTINGS: [(&str, Key); 9] = [
 /// meaning. So the parameters do not contain these names, but only whether there is an initial tour.
 ///
 /// # Errors
-/// The exit status, after a message.
-pub fn params_of(rt: &HostRuntime, options: &SearchOptions<'_>) -> Result<Params, ExitCode> {
+/// An option has an invalid value, or memory runs out.
+pub fn params_of(
+    rt: &HostRuntime,
+    options: &SearchOptions<'_>,
+) -> Result<Params, Refusal<'static>> {
     let mut builder = ParamsBuilder::new(rt.alloc());
-    set_keys(rt, &mut builder, options)?;
+    set_keys(&mut builder, options)?;
     match builder.build() {
         Some(params) => Ok(params),
-        None => Err(report::no_memory(rt)),
+        None => Err(Refusal::NoMemory),
     }
 }
 
 /// Sets the keys of all options.
 fn set_keys(
-    rt: &HostRuntime,
     builder: &mut ParamsBuilder,
     options: &SearchOptions<'_>,
-) -> Result<(), ExitCode> {
+) -> Result<(), Refusal<'static>> {
     for (option, key) in SETTINGS.iter() {
         if let Some(value) = value_of(options, *key) {
-            set_key(rt, builder, option, *key, value)?;
+            set_key(builder, option, *key, value)?;
         }
     }
     Ok(())
@@ -72,16 +73,15 @@ fn value_of<'a>(options: &SearchOptions<'a>, key: Key) -> Option<&'a str> {
 
 /// Sets the key of an option, or rejects its value.
 fn set_key(
-    rt: &HostRuntime,
     builder: &mut ParamsBuilder,
-    option: &str,
+    option: &'static str,
     key: Key,
     value: &str,
-) -> Result<(), ExitCode> {
+) -> Result<(), Refusal<'static>> {
     match builder.set(key, value.as_bytes()) {
         Ok(()) => Ok(()),
-        Err(ParamKind::NoMemory) => Err(report::no_memory(rt)),
-        Err(kind) => Err(report::option_fault(rt, option, kind)),
+        Err(ParamKind::NoMemory) => Err(Refusal::NoMemory),
+        Err(kind) => Err(Refusal::Option(option, kind)),
     }
 }
 

@@ -26,11 +26,12 @@ _tourkit_options() {
         check) _tourkit_words "--json -h --help" ;;
         checksol) _tourkit_words "--json -h --help" ;;
         explain) _tourkit_words "-h --help" ;;
-        matrix) _tourkit_words "-h --help" ;;
-        near) _tourkit_words "-k -h --help" ;;
+        info) _tourkit_words "--json -h --help" ;;
+        matrix) _tourkit_words "--json -h --help" ;;
+        near) _tourkit_words "-k --json -h --help" ;;
         plot) _tourkit_words "--html -h --help" ;;
         solve) _tourkit_words "-o --output --trials --candidates --runs --seed --or-segment --construction
-            --final-sweep --initial-tour --progress --json -h --help" ;;
+            --final-sweep --initial-tour --initial-solution --vehicles --within-routes --progress --json -h --help" ;;
     esac
 }
 
@@ -58,7 +59,7 @@ _tourkit_arguments() {
 
 _tourkit() {
     local word=${COMP_WORDS[COMP_CWORD]} before=${COMP_WORDS[COMP_CWORD - 1]}
-    local commands="check checksol explain matrix near plot solve help"
+    local commands="check checksol explain info matrix near plot solve help"
     COMPREPLY=()
     # Bash splits --option=value into three words.
     if [ "$word" = "=" ]; then
@@ -69,10 +70,10 @@ _tourkit() {
     case $COMP_CWORD:$before:$word in
         1:*) _tourkit_words "$commands --completions -h --help -V --version" ;;
         *:--completions:*) _tourkit_words "bash zsh fish" ;;
-        *:-k:* | *:--trials:* | *:--candidates:* | *:--runs:* | *:--seed:*) ;;
+        *:-k:* | *:--trials:* | *:--candidates:* | *:--runs:* | *:--seed:* | *:--vehicles:*) ;;
         *:--or-segment:*) _tourkit_words "1 2 3" ;;
         *:--construction:*) _tourkit_words "nearest savings" ;;
-        *:-o:* | *:--output:* | *:--initial-tour:* | *:*[\<\>]:*) _tourkit_files ;;
+        *:-o:* | *:--output:* | *:--initial-tour:* | *:--initial-solution:* | *:*[\<\>]:*) _tourkit_files ;;
         *:*:-*) _tourkit_options ;;
         *) _tourkit_arguments ;;
     esac
@@ -100,6 +101,7 @@ _tourkit() {
         'check:Checks a tour and prints its length'
         'checksol:Checks the routes of a CVRP and their cost'
         'explain:Explains a fault, or what is wrong with a file'
+        'info:Prints what is known of a problem'
         'matrix:Prints a problem as a TSP with explicit weights'
         'near:Prints the nearest neighbours of each city'
         'plot:Draws a problem, and a tour or routes of it, as SVG or HTML'
@@ -129,14 +131,22 @@ _tourkit() {
         (explain)
             _arguments -s $help '1:fault or file:_tourkit_what' '2:line: '
             ;;
+        (info)
+            _arguments -s $help \
+                '--json[print one JSON object instead of text]' \
+                '1:problem:_files'
+            ;;
         (matrix)
-            _arguments -s $help '1:problem:_files' \
+            _arguments -s $help \
+                '--json[print one JSON object instead of text]' \
+                '1:problem:_files' \
                 '2:format:(FULL_MATRIX UPPER_ROW LOWER_ROW UPPER_DIAG_ROW LOWER_DIAG_ROW
                     UPPER_COL LOWER_COL UPPER_DIAG_COL LOWER_DIAG_COL)'
             ;;
         (near)
             _arguments -s $help \
                 '-k+[length of each list, 1 to 100]:number: ' \
+                '--json[print one JSON object instead of text]' \
                 '1:problem:_files'
             ;;
         (plot)
@@ -152,9 +162,12 @@ _tourkit() {
                 '--runs=[number of runs, 1 to 10,000]:number: ' \
                 '--seed=[seed of the random numbers]:number: ' \
                 '--or-segment=[longest segment that an Or-opt move moves, 1 to 3]:number:(1 2 3)' \
-                '--construction=[how to construct the starting tours]:how:(nearest savings)' \
+                '--construction=[how to construct the starting tours (TSP only)]:how:(nearest savings)' \
                 '--final-sweep[continue each trial until no city has an improving move]' \
                 '--initial-tour=[start every run from this tour, or - for standard input (TSP only)]:tour:_files' \
+                '--initial-solution=[start every run from these routes, or - for standard input (CVRP only)]:solution:_files' \
+                '--vehicles=[exit with status 1 if the best solution has more routes than N (CVRP only)]:number: ' \
+                '--within-routes[move no customers between routes, as with PARAMETERS (CVRP only)]' \
                 "--progress[write each run's line to standard error when the run ends]" \
                 '--json[print one JSON object instead of text]' \
                 '1:problem or parameters:_files'
@@ -182,6 +195,7 @@ complete -c tourkit -n __fish_use_subcommand -l completions -x -a 'bash zsh fish
 complete -c tourkit -n __fish_use_subcommand -f -a check -d 'Checks a tour and prints its length'
 complete -c tourkit -n __fish_use_subcommand -f -a checksol -d 'Checks the routes of a CVRP and their cost'
 complete -c tourkit -n __fish_use_subcommand -f -a explain -d 'Explains a fault, or what is wrong with a file'
+complete -c tourkit -n __fish_use_subcommand -f -a info -d 'Prints what is known of a problem'
 complete -c tourkit -n __fish_use_subcommand -f -a matrix -d 'Prints a problem as a TSP with explicit weights'
 complete -c tourkit -n __fish_use_subcommand -f -a near -d 'Prints the nearest neighbours of each city'
 complete -c tourkit -n __fish_use_subcommand -f -a plot -d 'Draws a problem, and a tour or routes of it, as SVG or HTML'
@@ -198,10 +212,14 @@ complete -c tourkit -n '__fish_seen_subcommand_from explain; and __fish_is_nth_t
         WrongCount OutOfRange RepeatedCity BadCustomer ServedTwice OverCapacity NotServed WrongCost'
 complete -c tourkit -n '__fish_seen_subcommand_from explain; and __fish_is_nth_token 3' -f
 
+complete -c tourkit -n '__fish_seen_subcommand_from info' -l json -d 'print one JSON object instead of text'
+
 complete -c tourkit -n '__fish_seen_subcommand_from matrix; and __fish_is_nth_token 3' -f \
     -a 'FULL_MATRIX UPPER_ROW LOWER_ROW UPPER_DIAG_ROW LOWER_DIAG_ROW UPPER_COL LOWER_COL UPPER_DIAG_COL LOWER_DIAG_COL'
+complete -c tourkit -n '__fish_seen_subcommand_from matrix' -l json -d 'print one JSON object instead of text'
 
 complete -c tourkit -n '__fish_seen_subcommand_from near' -s k -x -d 'length of each list, 1 to 100'
+complete -c tourkit -n '__fish_seen_subcommand_from near' -l json -d 'print one JSON object instead of text'
 
 complete -c tourkit -n '__fish_seen_subcommand_from plot' -l html -d 'print an HTML page instead of an SVG picture'
 
@@ -215,14 +233,20 @@ complete -c tourkit -n '__fish_seen_subcommand_from solve' -l seed -x -d 'seed o
 complete -c tourkit -n '__fish_seen_subcommand_from solve' -l or-segment -x -a '1 2 3' \
     -d 'longest segment that an Or-opt move moves, 1 to 3'
 complete -c tourkit -n '__fish_seen_subcommand_from solve' -l construction -x -a 'nearest savings' \
-    -d 'how to construct the starting tours'
+    -d 'how to construct the starting tours (TSP only)'
 complete -c tourkit -n '__fish_seen_subcommand_from solve' -l final-sweep \
     -d 'continue each trial until no city has an improving move'
 complete -c tourkit -n '__fish_seen_subcommand_from solve' -l initial-tour -r -F \
     -d 'start every run from this tour, or - for standard input (TSP only)'
+complete -c tourkit -n '__fish_seen_subcommand_from solve' -l initial-solution -r -F \
+    -d 'start every run from these routes, or - for standard input (CVRP only)'
+complete -c tourkit -n '__fish_seen_subcommand_from solve' -l vehicles -x \
+    -d 'exit with status 1 if the best solution has more routes than N (CVRP only)'
+complete -c tourkit -n '__fish_seen_subcommand_from solve' -l within-routes \
+    -d 'move no customers between routes, as with PARAMETERS (CVRP only)'
 complete -c tourkit -n '__fish_seen_subcommand_from solve' -l progress \
     -d 'write each run\'s line to standard error when the run ends'
 complete -c tourkit -n '__fish_seen_subcommand_from solve' -l json -d 'print one JSON object instead of text'
 
-complete -c tourkit -n '__fish_seen_subcommand_from help' -f -a 'check checksol explain matrix near plot solve help'
+complete -c tourkit -n '__fish_seen_subcommand_from help' -f -a 'check checksol explain info matrix near plot solve help'
 "#;

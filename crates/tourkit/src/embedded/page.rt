@@ -6,7 +6,7 @@ pub static HEAD: &[u8] = br#"<!DOCTYPE html>
 <head>
 <meta charset="utf-8">
 <meta name="viewport" content="width=device-width, initial-scale=1">
-<meta http-equiv="Content-Security-Policy" content="default-src 'none'; style-src 'sha256-5huJ6kIGdYLPrj0740rDYTNUN2k1sCYmMATXZKreArE='; script-src 'sha256-/QPWiIIxkKLpvkVTGyYkfq+HII7YANytuU5FvLaZVOQ='">
+<meta http-equiv="Content-Security-Policy" content="default-src 'none'; style-src 'sha256-jrKy/W0VNiHaJBcFfTcvjrAIZdJS52rdIPeWp7pwye4='; script-src 'sha256-jpw8aSwUb+YK8tzVUZs12Hq4JUbtSaglP/O/a6K5IMA='">
 <style>
 "#;
 
@@ -38,21 +38,25 @@ button, input { font: inherit; color: inherit; background: var(--paper); border:
 /* ---- the picture: without the script, as wide as the page; with it (.live), a view that can be zoomed and panned */
 #stage { position: relative; overflow: hidden; border: 1px solid var(--edge); border-radius: .3rem; }
 #stage svg { display: block; width: 100%; height: auto; max-height: 85vh; }
-#stage.live { height: clamp(16rem, 72vh, 70rem); touch-action: none; cursor: grab; -webkit-user-select: none; user-select: none; }
+#stage.live { height: clamp(16rem, 72vh, 70rem); touch-action: pan-x pan-y; cursor: grab; -webkit-user-select: none; user-select: none; }
 #stage.live:active { cursor: grabbing; }
+#stage.zoomed { touch-action: none; }
 #stage.live svg { height: 100%; max-height: none; transform-origin: 0 0; }
 /* A heavy picture extends beyond the edges by half the size of the stage, so that it can be panned before it is redrawn. */
 #stage.heavy svg { position: absolute; inset: -50%; width: 200%; height: 200%; transform-origin: 25% 25%; will-change: transform; }
 
 /* A unit of the group is a tenth of a picture unit. */
 .live svg > g { stroke-width: calc(var(--line) * 10px * var(--scale)); }
+.live .depot-lines { stroke-width: calc(.5 * var(--line) * 10px * var(--scale)); }
+.bare .depot-lines { display: none; }
 .live svg path[stroke="black"] { stroke-width: calc(var(--dot) * 10px * var(--scale)); }
 /* Squares are drawn faster than discs, and look like them when they are small. */
 .live .fine path[stroke="black"] { stroke-linecap: square; }
 .live svg path[fill="black"] { stroke: black; stroke-linecap: square; stroke-width: calc(110px * var(--scale)); }
 .live svg g text { font-size: calc(130px * var(--scale)); stroke: white; stroke-width: calc(35px * var(--scale)); paint-order: stroke; }
 .live .crowded g text:not(.chosen) { display: none; }
-.faded polygon:not(#lit) { stroke-opacity: .2; }
+.faded polygon:not(#lit), .faded polyline, .faded path[stroke="black"]:not(#stops) { stroke-opacity: .2; }
+.faded .depot-lines polyline { stroke-opacity: .1; }
 .faded g text:not(.chosen) { opacity: .2; }
 .live svg #lit { stroke-width: calc((var(--line) + 1.5) * 10px * var(--scale)); }
 
@@ -67,8 +71,10 @@ button, input { font: inherit; color: inherit; background: var(--paper); border:
 
 /* ---- the elements around the picture */
 #tools { display: flex; flex-wrap: wrap; gap: .4rem; margin-bottom: .5rem; align-items: center; }
-#tools button { min-width: 2.4rem; min-height: 2.4rem; padding: 0 .6rem; cursor: pointer; }
+#tools button { min-width: 2.4rem; min-height: 2.4rem; padding: 0 .6rem; cursor: pointer; white-space: nowrap; }
+#tools [aria-pressed=true] { background: var(--chosen); }
 #tools input { width: 6.5rem; min-height: 2.4rem; padding: 0 .4rem; }
+#tools input::placeholder { color: transparent; }
 #where { min-height: 1.4em; }
 .help { color: var(--soft); font-size: .85rem; }
 
@@ -86,6 +92,10 @@ thead th[aria-sort=descending] button::before { content: "\25bc" / ""; }
 tbody th { padding-left: 0; }
 tbody th button { background: none; }
 tbody tr:hover, tbody tr:has([aria-pressed=true]) { background: var(--chosen); }
+#routes .stops { background: none; }
+.stops > td { padding: 0 0 .5rem 1.5rem; }
+.stops table { width: 100%; }
+.stops thead th { position: static; padding: 0 .5rem; color: var(--soft); }
 .swatch { display: inline-block; width: 1.4rem; height: .5rem; margin-right: .5rem; vertical-align: middle; background: var(--colour); }
 
 /* If there is room, the table is next to the picture. */
@@ -98,6 +108,14 @@ tbody tr:hover, tbody tr:has([aria-pressed=true]) { background: var(--chosen); }
 }
 @media (max-width: 30rem) {
     body { padding: .4rem; }
+    /* All buttons are in one row. The input takes the room that is left, and its label is only for screen readers. */
+    #tools { flex-wrap: nowrap; gap: .25rem; }
+    #tools button { min-width: 2.1rem; padding: 0 .3rem; }
+    #tools label { flex: 1 1 3rem; min-width: 2.5rem; }
+    #tools label span { position: absolute; clip-path: inset(50%); }
+    #tools input { width: 100%; padding: 0 .3rem; appearance: textfield; }
+    #tools input::-webkit-inner-spin-button { display: none; }
+    #tools input::placeholder { color: var(--soft); opacity: 1; }
     th, td { padding: 0 .25rem; font-size: .9rem; }
     thead th button { padding: .1rem .25rem; }
     #stage.live { height: clamp(14rem, 60vh, 40rem); }
@@ -129,9 +147,10 @@ pub static TOOLS: &[u8] =
 <button type="button" data-do="in" aria-label="Zoom in">+</button>
 <button type="button" data-do="out" aria-label="Zoom out">&minus;</button>
 <button type="button" data-do="whole">Whole</button>
-<label>City <input id="number" type="number" min="1" inputmode="numeric"></label>
+<label><span>City</span> <input id="number" type="number" min="1" inputmode="numeric" placeholder="City"></label>
 <button type="button" data-do="before" aria-label="Previous city">&#9664;</button>
 <button type="button" data-do="next" aria-label="Next city">&#9654;</button>
+<button type="button" data-do="depot" aria-pressed="true">Depot lines</button>
 </div>
 <div id="below">
 <p id="where" role="status"></p>
@@ -145,9 +164,10 @@ pub static TOOLS: &[u8] =
 pub static SCRIPT: &[u8] =
     br#"// The page of `tourkit plot --html`: zoom and pan, the city at the pointer, and the table of routes.
 //
-// The program writes the data. #stage contains the picture, #routes the table, and two blocks contain numbers:
+// The program writes the data. #stage contains the picture, #routes the table, and three blocks contain numbers:
 //     #cities    line c is city c: <across>,<down> <x> <y> [<demand> [depot]], with x and y in units of 10^-9
 //     #paths     line k has the cities of the k-th closed line of the picture, which is the k-th row of the table
+//     #legs      only with a table: line k has the number of that route, and the lengths of its legs
 // There are three kinds of coordinates: <across> and <down>, as in the lines of the picture; units of the picture's viewBox; and
 // pixels from the top left corner of the stage.
 'use strict';
@@ -171,7 +191,9 @@ const clamp = (low, value, high) => Math.max(low, Math.min(high, value));
 // ---- the data of the program
 
 const stage = byId('stage'), svg = stage.querySelector('svg'), group = svg.querySelector('g');
-const polygons = [...group.querySelectorAll('polygon')], routeNumbers = [...group.querySelectorAll('text')];
+svg.querySelector('.halo')?.remove();                           // the style of the page gives the numbers a halo that keeps its width
+const lines = [...group.querySelectorAll(':scope > polygon, :scope > polyline')], routeNumbers = [...group.querySelectorAll('text')];
+const depotLines = group.querySelector('.depot-lines');         // null if the lines of a route are not parted
 const table = document.querySelector('#routes table');          // null without routes
 
 function linesOf(id) {
@@ -211,11 +233,16 @@ const drawing = (kind, attributes) => element(kind, attributes, 'http://www.w3.o
 
 // A copy of the highlighted route, above the other lines.
 const lit = drawing('polygon', { id: 'lit', points: '' });
-if (polygons.length > 0) polygons.at(-1).after(lit);
+if (lines.length > 0) lines.at(-1).after(lit);
 
 // The points in view, for a picture without points.
-const nearDots = group.querySelector('path[stroke="black"]') ? null : drawing('path', { stroke: 'black', d: '' });
+const dots = group.querySelector('path[stroke="black"]');
+const nearDots = dots !== null ? null : drawing('path', { stroke: 'black', d: '' });
 if (nearDots !== null) lit.after(nearDots);
+
+// The stops of the highlighted route, above the other points.
+const litStops = drawing('path', { id: 'stops', stroke: 'black', d: '' });
+(dots ?? nearDots).after(litStops);
 
 // The mark and the tip are above the picture, not in it, so that the picture is not redrawn when they move.
 const mark = element('div', { id: 'mark', hidden: '' }), tip = element('div', { id: 'tip', hidden: '', 'aria-hidden': 'true' });
@@ -232,6 +259,7 @@ function prepareStage() {
     if (square !== null) square.setAttribute('d', square.getAttribute('d').replace(/m.*/, 'h0'));
 
     const parts = byId('parts').content;
+    if (depotLines === null) parts.querySelector('[data-do=depot]').remove();
     stage.after(parts.getElementById('below'));
     stage.before(parts);
     stage.append(mark, tip);
@@ -321,13 +349,16 @@ function setWidths(scale) {
     svg.style.setProperty('--line', clamp(0.6, 0.08 * apart, count < HEAVY ? 1.5 : 1));       // up to one pixel, browsers draw faster
     svg.style.setProperty('--dot', dot);
     svg.classList.toggle('fine', dot < 2);
-    svg.classList.toggle('crowded', side / Math.sqrt(polygons.length) < ROOM);
+    svg.classList.toggle('crowded', side / Math.sqrt(lines.length) < ROOM);
 }
+
+const spotOf = city => `${across[city]},${down[city]}`;
+const dotsOf = found => found.map(city => `M${spotOf(city)}h0`).join('');
 
 function drawNearDots() {
     const expected = count * width * height * (view.scale / (SPOTS * unit)) ** 2;
     const found = expected > 4 * FEW ? [] : citiesIn(...toSpot(0, 0), ...toSpot(width, height));
-    nearDots.setAttribute('d', found.length > FEW ? '' : found.map(city => `M${across[city]},${down[city]}h0`).join(''));
+    nearDots.setAttribute('d', found.length > FEW ? '' : dotsOf(found));
 }
 
 // Moves and scales a heavy picture as it was drawn, until the movement pauses.
@@ -336,6 +367,14 @@ function drawWhenResting() {
     svg.style.transform = `translate(${x}px, ${y}px) scale(${drawn.scale / view.scale})`;
     clearTimeout(resting);
     resting = setTimeout(draw, REST);
+}
+
+const isZoomed = () => view.scale < 0.999 * wholeScale();
+
+// Follows a change of the view: places the tip, and decides what a finger moves.
+function follow() {
+    placeTip();
+    stage.classList.toggle('zoomed', isZoomed());
 }
 
 // Sets the view, and keeps its centre within the picture.
@@ -348,7 +387,7 @@ function moveTo(x, y, scale) {
         scale,
     };
     if (count < HEAVY) draw(); else drawWhenResting();
-    placeTip();
+    follow();
 }
 
 const moveBy = (x, y) => moveTo(view.x - x * view.scale, view.y - y * view.scale, view.scale);
@@ -364,13 +403,13 @@ function showWhole() {
     view = { x: whole.x + (whole.width - width * scale) / 2, y: whole.y + (whole.height - height * scale) / 2, scale };
     isWhole = true;
     draw();
-    placeTip();
+    follow();
 }
 
 function measure() {
     width = Math.max(1, stage.clientWidth);
     height = Math.max(1, stage.clientHeight);
-    if (isWhole) showWhole(); else { draw(); placeTip(); }
+    if (isWhole) showWhole(); else { draw(); follow(); }
 }
 
 // ---- the selected city
@@ -385,10 +424,11 @@ function decimal(units) {
     return sign + digits.slice(0, -9) + (fraction === '' ? '' : '.' + fraction);
 }
 
+const customerOf = city => city > depot ? city - 1 : city;     // as solutions number them
+
 function roleOf(city) {
     if (city === depot) return ', the depot';
-    if (depot === 0) return '';
-    return `, customer ${city > depot ? city - 1 : city}`;       // as solutions number them
+    return depot === 0 ? '' : `, customer ${customerOf(city)}`;
 }
 
 function placeOnLine(city) {
@@ -446,14 +486,17 @@ let kept = -1;                  // the route that stays highlighted when the poi
 
 function light(k) {
     svg.classList.toggle('faded', k >= 0);
-    lit.setAttribute('points', k < 0 ? '' : polygons[k].getAttribute('points'));
-    if (k >= 0) lit.setAttribute('stroke', polygons[k].getAttribute('stroke'));
+    const path = k < 0 ? [] : paths[k];
+    lit.setAttribute('points', path.map(spotOf).join(' '));
+    if (k >= 0) lit.setAttribute('stroke', lines[k].getAttribute('stroke'));
+    litStops.setAttribute('d', dotsOf(path.filter(city => city !== depot)));
     routeNumbers.forEach((text, i) => text.classList.toggle('chosen', i === k));
 }
 
 function keep(k) {
     kept = k;
     light(k);
+    if (k !== opened) closeStops();
     rows.forEach((row, i) => row.button.setAttribute('aria-pressed', i === k));
     if (k < 0) return;
     const [, customers, load, share, length] = rows[k].values;
@@ -473,6 +516,78 @@ function scrollToRow(line) {
     if (top < 0 || top > list.clientHeight - line.offsetHeight) list.scrollTop = line.offsetTop - list.clientHeight / 2;
 }
 
+// ---- the stops of a route, in a list below its row
+
+let opened = -1;                // the route whose stops are listed; -1 if there is none
+const stops = element('tr', { class: 'stops' });
+
+function closeStops() {
+    if (opened >= 0) rows[opened].button.setAttribute('aria-expanded', 'false');
+    opened = -1;
+    stops.remove();
+}
+
+function openStops(k) {
+    const cell = element('td', { colspan: 5 });
+    cell.append(listOf(k));
+    stops.replaceChildren(cell);
+    rows[k].line.after(stops);
+    rows[k].button.setAttribute('aria-expanded', 'true');
+    opened = k;
+}
+
+// Opens the list of a route, and highlights the route, or ends both.
+function toggleStops(k) {
+    const closes = opened === k;
+    keep(closes ? -1 : k);
+    if (!closes) openStops(k);
+}
+
+// A line of a list. Its first cell is its heading, or all cells are headings of their columns.
+function lineOf(scope, [first, ...others]) {
+    const line = element('tr', {});
+    for (const [kind, scoped, content] of [['th', scope, first], ...others.map(one => [scope === 'col' ? 'th' : 'td', scope, one])]) {
+        const cell = element(kind, kind === 'th' ? { scope: scoped } : {});
+        cell.append(content);
+        line.append(cell);
+    }
+    return line;
+}
+
+// The customers of a route in order, with their demands, the load after each, and the length of the leg to it.
+function listOf(k) {
+    const list = element('table', {}), head = element('thead', {}), body = element('tbody', {});
+    const legs = linesOf('legs')[k].split(' ').slice(1), buttons = [];
+    let load = 0;
+    head.append(lineOf('col', ['Customer', 'Demand', 'Load after', 'Leg']));
+    for (const [stop, city] of paths[k].slice(1).entries()) {
+        const demand = Number(cities[city - 1].split(' ')[3]), button = element('button', { type: 'button', tabindex: stop === 0 ? 0 : -1 });
+        load += demand;
+        button.append(customerOf(city));
+        button.addEventListener('click', () => { goTo(city); stage.scrollIntoView({ block: 'nearest' }); });
+        buttons.push(button);
+        body.append(lineOf('row', [button, demand, load, legs[stop]]));
+    }
+    body.append(lineOf('row', ['Depot', '', '', legs.at(-1)]));
+    list.append(head, body);
+    roam(body, () => buttons);
+    return list;
+}
+
+// Tab stops at only one of some buttons, the one that had the focus last; arrow keys go to the others.
+function roam(body, listed) {
+    body.addEventListener('focusin', event => {
+        if (listed().includes(event.target)) for (const button of listed()) button.setAttribute('tabindex', button === event.target ? 0 : -1);
+    });
+    body.addEventListener('keydown', event => {
+        const buttons = listed(), from = buttons.indexOf(document.activeElement);
+        const to = { ArrowDown: from + 1, ArrowUp: from - 1, Home: 0, End: buttons.length - 1 }[event.key];
+        if (from < 0 || buttons[to] === undefined) return;
+        event.preventDefault();
+        buttons[to].focus();
+    });
+}
+
 // ---- the table
 
 const rows = table === null ? [] : [...table.tBodies[0].rows].map(prepareRow);
@@ -482,11 +597,11 @@ function prepareRow(line, k) {
     const head = line.cells[0], name = head.textContent.trim();
     const values = [...line.cells].map(cell => parseInt(cell.textContent, 10));
     const swatch = element('span', { class: 'swatch' });
-    swatch.style.setProperty('--colour', polygons[k].getAttribute('stroke'));
-    const button = element('button', { type: 'button', 'aria-pressed': 'false', tabindex: k === 0 ? 0 : -1 });
+    swatch.style.setProperty('--colour', lines[k].getAttribute('stroke'));
+    const button = element('button', { type: 'button', 'aria-pressed': 'false', 'aria-expanded': 'false', tabindex: k === 0 ? 0 : -1 });
     button.append(swatch, name);
     head.replaceChildren(button);
-    button.addEventListener('click', () => keep(kept === k ? -1 : k));
+    button.addEventListener('click', () => toggleStops(k));
     line.addEventListener('pointerenter', () => light(k));
     line.addEventListener('pointerleave', () => light(kept));
     return { name, line, button, values };
@@ -505,26 +620,13 @@ function sortBy(column, head) {
     head.setAttribute('aria-sort', falls ? 'descending' : 'ascending');
     listed = rows.slice().sort((a, b) => (falls ? -1 : 1) * (a.values[column] - b.values[column]));
     table.tBodies[0].append(...listed.map(row => row.line));
-}
-
-// Tab stops at only one button of the rows, the one that had the focus last; arrow keys go to the others.
-function holdFocus(event) {
-    for (const row of rows) row.button.setAttribute('tabindex', row.button === event.target ? 0 : -1);
-}
-
-function moveFocus(event) {
-    const from = listed.findIndex(row => row.button === document.activeElement);
-    const to = { ArrowDown: from + 1, ArrowUp: from - 1, Home: 0, End: listed.length - 1 }[event.key];
-    if (from < 0 || listed[to] === undefined) return;
-    event.preventDefault();
-    listed[to].button.focus();
+    if (opened >= 0) rows[opened].line.after(stops);
 }
 
 if (table !== null) {
     [...table.tHead.rows[0].cells].forEach(prepareHeading);
     table.tHead.rows[0].cells[0].setAttribute('aria-sort', 'ascending');
-    table.tBodies[0].addEventListener('focusin', holdFocus);
-    table.tBodies[0].addEventListener('keydown', moveFocus);
+    roam(table.tBodies[0], () => listed.map(row => row.button));
 }
 
 // ---- keys and buttons
@@ -541,10 +643,16 @@ function endAll() {
     status.textContent = '';
 }
 
+// Hides the lines to and from the depot, or shows them again. A highlighted route keeps its own.
+function switchDepotLines() {
+    const button = document.querySelector('[data-do=depot]');
+    button.setAttribute('aria-pressed', !svg.classList.toggle('bare'));
+}
+
 const deeds = {
     in: () => zoom(1 / 1.5), out: () => zoom(1.5), whole: showWhole,
     left: () => moveBy(STEP, 0), right: () => moveBy(-STEP, 0), up: () => moveBy(0, STEP), down: () => moveBy(0, -STEP),
-    next: () => step(1), before: () => step(-1), light: () => keepOf(shown),
+    next: () => step(1), before: () => step(-1), light: () => keepOf(shown), depot: switchDepotLines,
 };
 const deedOfKey = {
     '+': 'in', '=': 'in', '-': 'out', '\u2212': 'out', 0: 'whole', Home: 'whole',
@@ -578,6 +686,9 @@ function pixelsOf(event) {
     return [event.clientX - box.left - stage.clientLeft, event.clientY - box.top - stage.clientTop];
 }
 
+// While the whole picture is shown, a finger moves the page, which the browser does.
+const movesPage = event => event.pointerType === 'touch' && !isZoomed();
+
 const cityAt = event => nearest(...toSpot(...pixelsOf(event)), REACH * view.scale / unit);
 
 // If one of two fingers moves, the picture pans by half of its movement, and zooms about the point between the fingers.
@@ -600,7 +711,7 @@ stage.addEventListener('pointermove', event => {
     held.set(event.pointerId, to);
     const others = [...held.keys()].filter(id => id !== event.pointerId);
     if (others.length === 1) pinch(from, to, held.get(others[0]));
-    else if (others.length === 0 && strayed > 4) moveBy(to[0] - from[0], to[1] - from[1]);
+    else if (others.length === 0 && strayed > 4 && !movesPage(event)) moveBy(to[0] - from[0], to[1] - from[1]);
 });
 stage.addEventListener('pointerup', event => {
     if (!held.delete(event.pointerId) || held.size > 0 || strayed > 4) return;

@@ -3,4 +3,4 @@ use Rattle.tk_picture.proofs.closed_lines.put_tour.Goals as goal
 
 pub returns : goal.returns
 returns g c =
-    Puts-then (Puts-then c.put_line_start.ensures c.put_corners.ensures) c.put.ensures
+    Puts-then (Puts-then c.put_closed_start.ensures c.put_corners.ensures) c.put.ensures

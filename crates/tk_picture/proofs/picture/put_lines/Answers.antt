@@ -12,3 +12,6 @@ put_tour-requires g c =
 
 pub returns-in-Tour : goal.returns-in-Tour
 returns-in-Tour g c = rw c.in-Tour.is (subst (Puts _ _ _) (sym (append-nil _)) c.put_tour.ensures)
+
+pub returns-in-Routes : goal.returns-in-Routes
+returns-in-Routes g c = rw c.in-Routes.is c.put_route_lines.ensures

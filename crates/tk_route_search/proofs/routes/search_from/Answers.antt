@@ -25,6 +25,7 @@ returns g c =
       routes = c.in_ok-routes_of.field-0;
       cost = to_z w64 (of_z w64 kept.cost);
       start = to_z w64 (of_z w64 kept.start);
+      start_routes = length c.args.start.now;
       candidates = c.args.candidates;
       runs = kept.reports;
     } in
@@ -56,6 +57,7 @@ returns g c =
           ∙ ap (λ v. tour_length (ring_distance i (copies_in i v)) v) c.deref-2.ensures.value;
       cost = to_z-of_z w64 kept.cost cost_fits;
       start = to_z-of_z w64 kept.start start_fits;
+      start_count = count;
       runs = refl;
     } in
     record {

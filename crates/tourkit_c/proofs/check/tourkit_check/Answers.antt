@@ -8,5 +8,5 @@ use Rattle.tourkit_c.proofs.check.tourkit_check.Goals as goal
 pub returns-in-Err-clause-refused : goal.returns-in-Err-clause-refused
 returns-in-Err-clause-refused c = λ two.
     right_refusal _ _ _ _ (omega arith) _ _ (λ _. HasFault tour_texts c.args.tour.now) NoFault two
-    (λ p f h is. faulty _ _ _ f _ two refl is h) (λ p f h is. elim h [ ]) (λ p f h. elim h [ ])
+    (λ p f h is. faulty _ _ _ f _ two refl is h) (λ p f h is. elim h [ ])
     c.in-Err.fault c.stopped.ensures.is c.in-Err.ensures.err

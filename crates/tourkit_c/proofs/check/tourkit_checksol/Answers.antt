@@ -8,5 +8,5 @@ use Rattle.tourkit_c.proofs.check.tourkit_checksol.Goals as goal
 pub returns-in-Err-clause-refused : goal.returns-in-Err-clause-refused
 returns-in-Err-clause-refused c = λ two.
     right_refusal _ _ _ _ (omega arith) _ _ NoFault (λ _. HasFault solution_texts c.args.solution.now) two
-    (λ p f h is. elim h [ ]) (λ p f h is. faulty _ _ _ f _ two refl is h) (λ p f h. elim h [ ])
+    (λ p f h is. elim h [ ]) (λ p f h is. faulty _ _ _ f _ two refl is h)
     c.in-Err.fault c.stopped.ensures.is c.in-Err.ensures.err

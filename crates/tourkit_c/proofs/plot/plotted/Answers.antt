@@ -4,6 +4,7 @@ use Rattle.tourkit_c.proofs.InMemory.{from_memory, to_memory}
 use Rattle.tourkit_c.proofs.PlotTexts.{claim_stop, plot_said}
 use Rattle.tourkit_c.proofs.Stops.{stop_of}
 use Rattle.tourkit_c.proofs.plot.plotted.Goals as goal
+use Rattle.tourkit_c.specs.Answers.{NeverClashes}
 
 pub returns-in-Ok-clause-ok : goal.returns-in-Ok-clause-ok
 returns-in-Ok-clause-ok c =
@@ -16,7 +17,7 @@ returns-in-Ok-clause-ok c =
 
 pub returns-in-Err-clause-err : goal.returns-in-Err-clause-err
 returns-in-Err-clause-err c =
-    stop_of _ _ _ _ _ _ _ _ (ap (λ v. Some v.now) c.new-problem.ensures.inner) _
+    stop_of _ NeverClashes _ _ _ _ _ _ (ap (λ v. Some v.now) c.new-problem.ensures.inner) _
     (WritesOutput to_memory to_memory c.new-out.result c.plot_engine.new.out c.new-told.result c.plot_engine.new.told)
     (claim_stop from_memory c.new-claim.result c.plot_engine.new.claim _ _
     (ap (λ v. Some v.now) c.new-claim.ensures.inner) _) (λ p b f read clash. absurd cc)

@@ -21,5 +21,5 @@ returns-in-Err-clause-refused c = λ two.
     let claim = c.args.claim.now in
     right_refusal _ _ _ _ (omega arith) _ _ (IsTourFault given claim) (IsSolutionFault given claim) two
     (λ p f h is. (h.0, inl (h.1, faulty _ _ _ f _ two refl is h.2)))
-    (λ p f h is. (h.0, inr (h.1, faulty _ _ _ f _ two refl is h.2))) (λ p f h. elim h [ ])
+    (λ p f h is. (h.0, inr (h.1, faulty _ _ _ f _ two refl is h.2)))
     c.in-Err.fault c.stopped.ensures.is c.in-Err.ensures.err

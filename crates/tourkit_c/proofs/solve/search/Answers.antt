@@ -17,7 +17,7 @@ pub returns-in-Err-clause-refused : goal.returns-in-Err-clause-refused
 returns-in-Err-clause-refused c = λ two.
     right_refusal _ _ _ _ (omega arith) _ _
     (IsInitialFault (is_some c.args.params.now.initial_tour_file) c.args.initial.now) NoFault two
-    (λ q f h is. (h.0, faulty _ _ _ f _ two refl is h.1)) (λ q f h is. elim h [ ]) (λ q f h. refl)
+    (λ q f h is. (h.0, faulty _ _ _ f _ two refl is h.1)) (λ q f h is. elim h [ ])
     c.in-Err.fault c.stopped.ensures.is c.in-Err.ensures.err
 
 pub returns-in-Err-clause-later : goal.returns-in-Err-clause-later

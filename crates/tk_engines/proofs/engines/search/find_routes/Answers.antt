@@ -1,4 +1,4 @@
-use Rattle.std.proofs.Common.{◌≡◌, ap, arith, length, rules}
+use Rattle.std.proofs.Common.{ap, arith, length, rules}
 use Rattle.std.proofs.lemmas.List.{length-map}
 use Rattle.tk_distance.specs.Tables.{table_size-limit}
 use Rattle.tk_routes.specs.RouteLists.{routes_of}

@@ -1,5 +1,4 @@
 use Rattle.std.proofs.Common.{refl}
-use Rattle.tk_problem_text.specs.ProblemOf.{problem_is}
 use Rattle.tk_engines.proofs.SolveEnds.{found_ends, initial_failed, memory_ended, unwatched}
 use Rattle.tk_engines.proofs.engines.search.search_from.Goals as goal
 

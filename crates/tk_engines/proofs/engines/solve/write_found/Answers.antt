@@ -1,4 +1,4 @@
-use Rattle.std.proofs.Common.{◌≡◌, ap, arith, length, rules}
+use Rattle.std.proofs.Common.{ap, arith, length, rules}
 use Rattle.std.specs.Int.RustNames.{unsigned_abs}
 use Rattle.tk_writers.specs.Puts.{Writes}
 use Rattle.tk_writers.specs.TourWritten.{tour_text}

@@ -1,0 +1,9 @@
+use Rattle.tk_engines.specs.Engine.{WritesNothing}
+use Rattle.tk_engines.proofs.Ends.{problem_read}
+use Rattle.tk_engines.proofs.TextsRead.{is_read}
+use Rattle.tk_engines.proofs.engines.between.between_outcome.Goals as goal
+
+pub returns-in-Ok-clause-ends : goal.returns-in-Ok-clause-ends
+returns-in-Ok-clause-ends g c =
+    problem_read _ _ _ WritesNothing _ (is_read c.in-Ok.ensures.reads)
+    c.search_between.result c.search_between.ensures.ends

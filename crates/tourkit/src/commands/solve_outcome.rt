@@ -1,0 +1,117 @@
+//! The search of `solve`, by the type of its problem.
+use crate::search::Search;
+use crate::watching::SearchWatch;
+use std::alloc::Global;
+use tk_command_line::SearchOptions;
+use tk_engines::{
+    BetweenOptions, Fault, SearchOutcome, search_between, search_outcome, search_problem,
+};
+use tk_params::Params;
+use tk_problem::Problem;
+use tk_problem_text::read_problem;
+use tk_words::Source;
+
+/// The default length of the near lists of a search between routes.
+const CANDIDATES: u32 = 12;
+
+/// The default number of runs of a search between routes.
+const RUNS: u32 = 1;
+
+/// Why a search stopped before it wrote anything.
+pub enum Stop {
+    /// A fault of an engine.
+    Fault(Fault),
+    /// This option does not apply to the type of the problem.
+    NotForType(&'static str),
+}
+
+impl From<Fault> for Stop {
+    fn from(fault: Fault) -> Stop {
+        Stop::Fault(fault)
+    }
+}
+
+/// The outcome of a search. `initial` is read if each run begins with an initial tour or solution.
+///
+/// # Errors
+/// Why the search stopped.
+pub fn outcome_of<P: Source, I: Source>(
+    alloc: Global,
+    search: &Search<'_, '_>,
+    problem: &mut P,
+    initial: &mut I,
+    watch: &mut SearchWatch<'_>,
+) -> Result<SearchOutcome, Stop> {
+    let Some(options) = search.options else {
+        return Ok(search_outcome(alloc, search.params, problem, initial, watch)?);
+    };
+    match read_problem(alloc, problem) {
+        Ok(problem) => outcome_by_options(alloc, search.params, options, problem, initial, watch),
+        Err(fault) => Err(Stop::Fault(Fault::Problem(fault))),
+    }
+}
+
+/// The outcome of a search that options request, for a problem that has been read.
+fn outcome_by_options<I: Source>(
+    alloc: Global,
+    params: &Params,
+    options: &SearchOptions<'_>,
+    problem: Problem,
+    initial: &mut I,
+    watch: &mut SearchWatch<'_>,
+) -> Result<SearchOutcome, Stop> {
+    let routing = problem.routing.is_some();
+    if let Some(option) = unfit(options, routing) {
+        return Err(Stop::NotForType(option));
+    }
+    if routing && !options.within_routes {
+        let terms = between_options(params, options);
+        return Ok(search_between(alloc, &terms, &problem, initial, watch)?);
+    }
+    Ok(search_problem(alloc, params, problem, initial, watch)?)
+}
+
+/// The first option that does not apply to a problem with routing, or to one without.
+fn unfit(options: &SearchOptions<'_>, routing: bool) -> Option<&'static str> {
+    let given = [
+        ("--initial-tour", false, options.initial_tour.is_some()),
+        ("--construction", false, options.construction.is_some()),
+        (
+            "--initial-solution",
+            true,
+            options.initial_solution.is_some(),
+        ),
+        ("--vehicles", true, options.vehicles.is_some()),
+        ("--within-routes", true, options.within_routes),
+    ];
+    for (option, for_routing, is_given) in &given {
+        if *is_given && *for_routing != routing {
+            return Some(option);
+        }
+    }
+    None
+}
+
+/// The options of a search between routes. The parameters have the values that were given; the defaults are those of
+/// this search.
+fn between_options(params: &Params, options: &SearchOptions<'_>) -> BetweenOptions {
+    let runs = if options.runs.is_some() {
+        params.runs()
+    } else {
+        RUNS
+    };
+    let candidates = if options.candidates.is_some() {
+        params.max_candidates()
+    } else {
+        CANDIDATES
+    };
+    BetweenOptions {
+        from_solution: options.initial_solution.is_some(),
+        runs,
+        trials: params.max_trials(),
+        seed: params.seed(),
+        candidates,
+        or_segment: params.or_segment(),
+        final_sweep: params.final_sweep(),
+    }
+}

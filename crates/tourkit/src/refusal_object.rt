@@ -1,0 +1,203 @@
+//! Refusals as JSON objects. The members are described in docs/OUTPUT.md.
+use crate::message::message_of;
+use crate::refusal::Refusal;
+use serde::{Described, Serialize, Serializer};
+use std::alloc::AllocError;
+use tk_engines::RouteFault;
+use tk_params::ParamKind;
+use tk_tour::TourFault;
+use tk_words::TextKind;
+
+/// The object of a refusal.
+#[derive(Drop, Serialize)]
+pub struct RefusalObject<'a> {
+    refused: Refused<'a>,
+}
+
+/// The members of a refusal.
+#[derive(Drop, Serialize)]
+struct Refused<'a> {
+    #[serde(skip_serializing_if = "Option::is_none")]
+    file: Option<&'a str>,
+    #[serde(skip_serializing_if = "Option::is_none")]
+    line: Option<u64>,
+    #[serde(skip_serializing_if = "Option::is_none")]
+    number: Option<u32>,
+    #[serde(skip_serializing_if = "Option::is_none")]
+    name: Option<&'static str>,
+    #[serde(skip_serializing_if = "Option::is_none")]
+    values: Option<Values>,
+    message: String,
+}
+
+/// The values of a fault, which its message has after its name. As JSON, they are an array.
+#[derive(Clone, Copy)]
+enum Values {
+    None,
+    Word(&'static str),
+    One(u32),
+    Two(u64, u64),
+    Costs(i64, i64),
+}
+
+impl Described for Values {}
+
+impl Serialize for Values {
+    fn serialize<S: Serializer>(&self, out: &mut S) -> Result<(), S::Error> {
+        out.begin_seq(None)?;
+        match *self {
+            Values::None => {}
+            Values::Word(word) => out.str(word)?,
+            Values::One(number) => out.u64(number as u64)?,
+            Values::Two(first, second) => {
+                out.u64(first)?;
+                out.u64(second)?;
+            }
+            Values::Costs(first, second) => {
+                out.i64(first)?;
+                out.i64(second)?;
+            }
+        }
+        out.end_seq()
+    }
+}
+
+/// A fault by its name and, if it has one, its number, with its values.
+#[derive(Clone, Copy)]
+struct Named {
+    number: Option<u32>,
+    name: &'static str,
+    values: Values,
+}
+
+impl<'a> RefusalObject<'a> {
+    /// The object of a refusal.
+    ///
+    /// # Errors
+    /// `AllocError` if memory runs out.
+    pub fn of(rt: &HostRuntime, refusal: &Refusal<'a>) -> Result<RefusalObject<'a>, AllocError> {
+        let named = fault_of(refusal);
+        Ok(RefusalObject {
+            refused: Refused {
+                file: refusal.file(),
+                line: line_of(refusal),
+                number: named.and_then(|named| named.number),
+                name: named.map(|named| named.name),
+                values: named.map(|named| named.values),
+                message: format!(in rt.alloc(); "{}", message_of(rt, refusal))?,
+            },
+        })
+    }
+}
+
+/// The line of the fault of a file.
+fn line_of(refusal: &Refusal<'_>) -> Option<u64> {
+    match refusal {
+        Refusal::Text(_, fault) => Some(fault.line),
+        Refusal::Parameters(_, fault) | Refusal::ProblemForParameters(_, fault) => Some(fault.line),
+        _ => None,
+    }
+}
+
+/// The fault that has a name.
+fn fault_of(refusal: &Refusal<'_>) -> Option<Named> {
+    match refusal {
+        Refusal::Text(_, fault) => Some(of_text(fault.kind)),
+        Refusal::Parameters(_, fault) | Refusal::ProblemForParameters(_, fault) => {
+            Some(of_parameters(fault.kind))
+        }
+        Refusal::Initial(_, fault) => of_initial(*fault),
+        Refusal::InitialRoutes(_, fault) => Some(of_routes(*fault)),
+        Refusal::Option(_, kind) => Some(of_parameters(*kind)),
+        _ => None,
+    }
+}
+
+/// A fault without values.
+fn plain(number: u32, name: &'static str) -> Named {
+    Named {
+        number: Some(number),
+        name,
+        values: Values::None,
+    }
+}
+
+/// A fault with one number.
+fn with(number: u32, name: &'static str, value: u32) -> Named {
+    Named {
+        number: Some(number),
+        name,
+        values: Values::One(value),
+    }
+}
+
+/// The fault of a text.
+fn of_text(kind: TextKind) -> Named {
+    match kind {
+        TextKind::UnknownKeyword => plain(1, "UnknownKeyword"),
+        TextKind::Repeated => plain(2, "Repeated"),
+        TextKind::Missing(keyword) => Named {
+            number: Some(3),
+            name: "Missing",
+            values: Values::Word(keyword.word()),
+        },
+        TextKind::Unsupported => plain(4, "Unsupported"),
+        TextKind::BadNumber => plain(5, "BadNumber"),
+        TextKind::OutOfLimit => plain(6, "OutOfLimit"),
+        TextKind::BadNode => plain(7, "BadNode"),
+        TextKind::NotSymmetric(a, b) => Named {
+            number: Some(8),
+            name: "NotSymmetric",
+            values: Values::Two(a as u64, b as u64),
+        },
+        TextKind::Truncated => plain(9, "Truncated"),
+        TextKind::TrailingData => plain(10, "TrailingData"),
+        TextKind::BadDepot => plain(11, "BadDepot"),
+        TextKind::DemandOverCapacity(node) => with(12, "DemandOverCapacity", node),
+        TextKind::TooLong => plain(13, "TooLong"),
+        TextKind::Read => plain(14, "Read"),
+        TextKind::NoMemory => plain(15, "NoMemory"),
+    }
+}
+
+/// The fault of a parameter file.
+fn of_parameters(kind: ParamKind) -> Named {
+    match kind {
+        ParamKind::UnknownKey => plain(1, "UnknownKey"),
+        ParamKind::RepeatedKey => plain(2, "RepeatedKey"),
+        ParamKind::BadValue => plain(3, "BadValue"),
+        ParamKind::MissingProblem => plain(4, "MissingProblem"),
+        ParamKind::DollarInName => plain(5, "DollarInName"),
+        ParamKind::TooLong => plain(6, "TooLong"),
+        ParamKind::Read => plain(7, "Read"),
+        ParamKind::NoMemory => plain(8, "NoMemory"),
+    }
+}
+
+/// The fault of an initial tour.
+fn of_initial(fault: TourFault) -> Option<Named> {
+    match fault {
+        TourFault::WrongCount => Some(plain(1, "WrongCount")),
+        TourFault::OutOfRange(place) => Some(with(2, "OutOfRange", place)),
+        TourFault::RepeatedCity(place) => Some(with(3, "RepeatedCity", place)),
+        TourFault::NoMemory => None,
+    }
+}
+
+/// The fault of the routes of an initial solution. It has the name that `checksol` prints with `--json`.
+fn of_routes(fault: RouteFault) -> Named {
+    let (name, values) = match fault {
+        RouteFault::BadCustomer(route, customer) => {
+            ("BadCustomer", Values::Two(route, customer as u64))
+        }
+        RouteFault::ServedTwice(customer) => ("ServedTwice", Values::One(customer)),
+        RouteFault::OverCapacity(route, load) => ("OverCapacity", Values::Two(route, load)),
+        RouteFault::NotServed(customer) => ("NotServed", Values::One(customer)),
+        RouteFault::WrongCost(read, counted) => ("WrongCost", Values::Costs(read, counted)),
+    };
+    Named {
+        number: None,
+        name,
+        values,
+    }
+}

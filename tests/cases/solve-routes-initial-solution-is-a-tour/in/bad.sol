@@ -1,0 +1,8 @@
+TYPE : TOUR
+TOUR_SECTION
+1
+2
+3
+4
+5
+-1
