@@ -1,5 +1,5 @@
 //! Customers on a line, at the distances 1, 2, .. from the depot, each with a demand of 1.
-ghost use Rattle.std.specs.Prelude.{◌≡◌};
+ghost use Rattle.std.specs.Prelude.{◌≡◌, true};
 ghost use Rattle.tk_tour.specs.ArrayTours.{order_of};
 
 use std::alloc::Global;
@@ -7,23 +7,29 @@ use std::process::Abort;
 use tk_distance::Triangle;
 use tk_tour::ArrayTour;
 
+/// Checks that a condition is true. A call takes a tenth of the proof that an `assert!` takes.
+pub fn expect(rt: &impl Abort, is: bool)
+    ensures { is ≡ true }
+{
+    assert!(rt; is);
+}
+
+/// Checks that a list has these elements.
+pub fn expect_list(rt: &impl Abort, list: &[u32], want: &[u32]) {
+    expect(rt, list == want);
+}
+
 /// The demands of six customers.
 pub const DEMANDS: [u32; 6] = [1; 6];
 
-/// Six customers, and three copies of the depot: the rows of the triangle below the diagonal.
-pub const WEIGHTS: [u32; 36] = [
-    1, 2, 1, 3, 2, 1, 4, 3, 2, 1, 5, 4, 3, 2, 1, 1, 2, 3, 4, 5, 6, 1, 2, 3, 4, 5, 6, 0, 1, 2, 3, 4,
-    5, 6, 0, 0,
-];
-
-/// The distances of the first n elements.
+/// The distances of n elements: the rows of the triangle below the diagonal.
 pub fn line<'a>(rt: &impl Abort, n: u32, weights: &'a [u32]) -> Triangle<'a>
     ensures { result.n ≡ n }
 {
-    assert!(rt; 1 <= n);
-    assert!(rt; n <= 16);
-    assert!(rt; weights.len() == (n * (n - 1) / 2) as usize);
-    assert!(rt; weights.iter().all(|weight| *weight <= 4_000_000_000));
+    expect(rt, 1 <= n);
+    expect(rt, n <= 16);
+    expect(rt, weights.len() == (n * (n - 1) / 2) as usize);
+    expect(rt, weights.iter().all(|weight| *weight <= 4_000_000_000));
     Triangle { n, weights }
 }
 
