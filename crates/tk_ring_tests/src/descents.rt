@@ -1,22 +1,24 @@
 //! Worked examples of descents of rings.
-ghost use Rattle.std.specs.Prelude.{◌≡◌, ◌≤◌, IfOk, length};
-ghost use Rattle.tk_problem.specs.declared.limits.TheConstants.{CITY_LIMIT};
+ghost use Rattle.std.specs.Prelude.{◌≡◌, ◌≤◌, ◌<◌, length, pos};
 ghost use Rattle.tk_lists.specs.Solution.{lists_of};
-ghost use Rattle.tk_routes.specs.Cvrps.{instance_of};
-ghost use Rattle.tk_routes.specs.Routes.{AreRoutes};
-ghost use Rattle.tk_tour.specs.ArrayTours.{order_of};
-ghost use Rattle.tk_tour.specs.Tour.{IsTour};
+ghost use Rattle.tk_problem.specs.declared.limits.TheConstants.{CITY_LIMIT};
 ghost use Rattle.tk_rings.specs.Capacities.{IsFitting};
+ghost use Rattle.tk_rings.specs.RingRoutes.{demands_of};
+ghost use Rattle.tk_routes.specs.Cvrps.{instance_of};
+ghost use Rattle.tk_routes.specs.Instance.{customer_count};
+ghost use Rattle.tk_routes.specs.Routes.{AreRoutes};
+ghost use Rattle.tk_tour.specs.Tour.{IsTour, tour_length};
 
-use crate::given::{TWO_SIDES, are_valid, claim, problem_of};
-use std::alloc::{AllocError, Global};
-use std::test::Fail;
+use crate::given::{TWO_SIDES, claim, cvrp_of, expect, expect_back, expect_valid, problem_of};
+use std::alloc::Global;
+use std::process::Abort;
 use tk_descent::{Probe, Report, Waking};
 use tk_distance::{Metric, Sub};
 use tk_near::near_scan;
-use tk_rings::{Capacity, descend_ring, ring_demands, ring_nodes, ring_of, routes_of};
+use tk_rings::{Capacity, descend_ring, ring_demands, ring_nodes, ring_of};
 use tk_routes::Cvrp;
-use tk_tour::{ArrayTour, length};
+use tk_text::{Problem, SolText};
+use tk_tour::{ArrayTour, TourStore, length};
 
 /// Two customers on one side of the depot, with a capacity of 2.
 const ONE_SIDE: &[u8] =
@@ -45,173 +47,174 @@ const NO_ROOM_BETWEEN: &[u8] =
     EDGE_WEIGHT_SECTION\n20 50 100 100 10\n100 15 15 100\n10 100 100\n10 100\n10\nDEMAND_SECTION\n1 0\n2 1\n3 1\n4 1\n\
     5 1\n6 1\nDEPOT_SECTION\n1\n-1\nEOF\n";
 
-/// A descent of a ring with all elements awake: the ring after it, and its report.
-fn descend_all<M: Metric>(
-    alloc: Global,
-    metric: &M,
-    vehicles: &Capacity<'_>,
-    ring: &[u32],
-) -> Result<(ArrayTour, Report), Fail>
+/// Routes before and after a descent of their ring with all elements awake, with their costs and the number of moves.
+struct Row<'a> {
+    problem: &'a [u8],
+    start: &'a [&'a [u32]],
+    end: &'a [&'a [u32]],
+    costs: [i64; 2],
+    moves: u64,
+}
+
+static ROWS: [Row<'static>; 6] = [
+    // the routes are joined, which uses up the capacity
+    Row {
+        problem: ONE_SIDE,
+        start: &[&[1], &[2]],
+        end: &[&[1, 2]],
+        costs: [42, 22],
+        moves: 1,
+    },
+    // the same move is rejected only because of the capacity
+    Row {
+        problem: SMALL_VANS,
+        start: &[&[1], &[2]],
+        end: &[&[1], &[2]],
+        costs: [42, 42],
+        moves: 0,
+    },
+    // a 2-opt move exchanges the ends of two full routes
+    Row {
+        problem: TWO_SIDES,
+        start: &[&[1, 4], &[2, 3]],
+        end: &[&[1, 2], &[3, 4]],
+        costs: [120, 80],
+        moves: 1,
+    },
+    // an Or-opt move puts the only customer of a route between two others, which uses up the capacity
+    Row {
+        problem: BETWEEN,
+        start: &[&[1], &[2, 3, 4, 5]],
+        end: &[&[2, 3, 1, 4, 5]],
+        costs: [130, 110],
+        moves: 1,
+    },
+    // There is no room for customer 1 between the others. So customer 5, at the end of their route, becomes a route of
+    // its own, and customer 1 takes its place.
+    Row {
+        problem: NO_ROOM_BETWEEN,
+        start: &[&[1], &[2, 3, 4, 5]],
+        end: &[&[1, 4, 3, 2], &[5]],
+        costs: [130, 125],
+        moves: 1,
+    },
+    // a customer without a demand fits on a full route
+    Row {
+        problem: NO_DEMAND,
+        start: &[&[1], &[2]],
+        end: &[&[1, 2]],
+        costs: [42, 22],
+        moves: 1,
+    },
+];
+
+/// The length of a ring.
+fn length_of<M: Metric>(metric: &M, ring: &[u32]) -> i64
     requires size { M.size_of metric.now ≡ length ring.now }
     requires ring { IsTour (length ring.now) ring.now }
     requires few { length ring.now ≤ CITY_LIMIT }
-    requires fits { IsFitting vehicles.now.capacity vehicles.now.demands.now ring.now }
-    ensures ring { IfOk result (λ r. IsTour (length ring.now) (order_of r.0)) }
-    ensures fits { IfOk result (λ r. IsFitting vehicles.now.capacity vehicles.now.demands.now (order_of r.0)) }
+    ensures { result ≡ pos (tour_length (M.distance metric.now) ring.now) }
+{
+    length(metric, ring)
+}
+
+/// Makes a descent of a ring with all elements awake.
+fn descend_awake<S: TourStore, M: Metric>(
+    rt: &impl Abort,
+    alloc: Global,
+    metric: &M,
+    vehicles: &Capacity<'_>,
+    ring: &mut S,
+    before: i64,
+) -> Report
+    requires size { M.size_of metric.now ≡ length (S.cities ring.old) }
+    requires before { before ≡ pos (tour_length (M.distance metric.now) (S.cities ring.old)) }
+    requires fits { IsFitting vehicles.now.capacity vehicles.now.demands.now (S.cities ring.old) }
+    ensures fits { IsFitting vehicles.now.capacity vehicles.now.demands.now (S.cities ring.new) }
+    ensures ring { IsTour (length (S.cities ring.old)) (S.cities ring.new) }
 {
     let n = metric.size();
-    let near = near_scan(alloc, metric, (n - 1).min(100))?;
-    let mut waking = Waking::new(alloc, n)?;
+    let near = near_scan(alloc, metric, (n - 1).min(100)).expect(rt, "memory for near lists");
+    let mut waking = Waking::new(alloc, n).expect(rt, "memory for the elements awake");
     waking.wake_all();
-    let mut tour = ArrayTour::from_list(alloc, ring)?;
-    let before = length(metric, ring);
-    let mut gains = Probe::new(metric);
-    let report = descend_ring(
-        &mut tour,
-        &mut gains,
+    descend_ring(
+        ring,
+        &mut Probe::new(metric),
         vehicles,
         &near,
         &mut waking,
         3,
         before,
-    );
-    Ok((tour, report))
+    )
 }
 
-/// The routes after a descent of the ring of these routes with all elements awake, and its report.
-fn descended(
+/// Checks a descent of a ring, and the routes that are read off it.
+fn expect_descent<M: Metric>(
+    rt: &impl Abort,
     alloc: Global,
     cvrp: &Cvrp<'_>,
-    routes: &[Vec<u32>],
-) -> Result<(Vec<Vec<u32>>, Report), Fail>
+    metric: &M,
+    vehicles: &Capacity<'_>,
+    ring: &[u32],
+    row: &Row<'_>,
+)
+    requires size { M.size_of metric.now ≡ length ring.now }
+    requires ring { IsTour (length ring.now) ring.now }
+    requires few { length ring.now ≤ CITY_LIMIT }
+    requires copies { customer_count (instance_of cvrp.now) < length ring.now }
+    requires vehicles { (vehicles.now.capacity ≡ (instance_of cvrp.now).capacity)
+        × (vehicles.now.demands.now ≡ demands_of (instance_of cvrp.now)) }
+    requires fits { IsFitting vehicles.now.capacity vehicles.now.demands.now ring.now }
+{
+    let mut tour = ArrayTour::from_list(alloc, ring).expect(rt, "a ring");
+    let before = length_of(metric, ring);
+    let report = descend_awake(rt, alloc, metric, vehicles, &mut tour, before);
+    expect(rt, report.before == row.costs[0]);
+    expect(rt, report.after == row.costs[1]);
+    expect(rt, report.moves == row.moves);
+    expect_back(rt, alloc, cvrp, tour.order(), row.end);
+}
+
+/// Checks a descent of the ring of routes.
+fn expect_from(rt: &impl Abort, alloc: Global, cvrp: &Cvrp<'_>, routes: &[Vec<u32>], row: &Row<'_>)
     requires { AreRoutes (instance_of cvrp.now) (lists_of routes.now) }
 {
-    let ring = ring_of(alloc, cvrp, routes)?;
-    let nodes = ring_nodes(alloc, cvrp, routes.len() as u32 + 1)?;
-    let demands = ring_demands(alloc, cvrp)?;
+    let ring = ring_of(alloc, cvrp, routes).expect(rt, "memory for a ring");
+    let nodes = ring_nodes(alloc, cvrp, routes.len() as u32 + 1).expect(rt, "memory for nodes");
+    let demands = ring_demands(alloc, cvrp).expect(rt, "memory for demands");
     let vehicles = Capacity {
         demands: &demands,
         capacity: cvrp.capacity() as u64,
     };
     let table = cvrp.table();
-    let metric = Sub::new(&table, &nodes);
-    let (tour, report) = descend_all(alloc, &metric, &vehicles, &ring)?;
-    Ok((routes_of(alloc, cvrp, tour.order())?, report))
+    expect_descent(
+        rt,
+        alloc,
+        cvrp,
+        &Sub::new(&table, &nodes),
+        &vehicles,
+        &ring,
+        row,
+    );
 }
 
-/// Whether a descent makes these routes of those, by this many moves; each with its cost.
-fn becomes(
-    alloc: Global,
-    problem: &[u8],
-    start: (&[&[u32]], i64),
-    end: (&[&[u32]], i64),
-    moves: u64,
-) -> Result<bool, Fail> {
-    let problem = problem_of(alloc, problem)?;
-    let Some(cvrp) = Cvrp::of(&problem) else {
-        return Ok(false);
-    };
-    let start = claim(alloc, start.0, start.1)?;
-    let end = claim(alloc, end.0, end.1)?;
-    if !are_valid(alloc, &cvrp, &start)? || !are_valid(alloc, &cvrp, &end)? {
-        return Ok(false);
+/// Checks that both solutions are valid, and a descent from the routes of the first.
+fn expect_all(rt: &impl Abort, alloc: Global, problem: &Problem, start: &SolText, row: &Row<'_>) {
+    let cvrp = cvrp_of(rt, problem);
+    expect_valid(rt, alloc, &cvrp, start);
+    expect_from(rt, alloc, &cvrp, &start.routes, row);
+    expect_valid(rt, alloc, &cvrp, &claim(rt, alloc, row.end, row.costs[1]));
+}
+
+fn expect_row(rt: &impl Abort, alloc: Global, row: &Row<'_>) {
+    let problem = problem_of(rt, alloc, row.problem);
+    let start = claim(rt, alloc, row.start, row.costs[0]);
+    expect_all(rt, alloc, &problem, &start, row);
+}
+
+#[test]
+fn descents_of_rings(rt: HostRuntime) {
+    for row in &ROWS {
+        expect_row(&rt, rt.alloc(), row);
     }
-    let (routes, report) = descended(alloc, &cvrp, &start.routes)?;
-    Ok(
-        routes == end.routes
-            && report.before == start.cost
-            && report.after == end.cost
-            && report.moves == moves,
-    )
-}
-
-/// The routes are joined, which uses up the capacity.
-#[test]
-fn two_routes_become_one(rt: HostRuntime) -> Result<(), Fail> {
-    assert!(rt;
-        becomes(
-            rt.alloc(),
-            ONE_SIDE,
-            (&[&[1], &[2]], 42),
-            (&[&[1, 2]], 22),
-            1
-        )?
-    );
-    Ok(())
-}
-
-/// The same move is refused for the capacity alone.
-#[test]
-fn too_heavy_for_one(rt: HostRuntime) -> Result<(), Fail> {
-    assert!(rt;
-        becomes(
-            rt.alloc(),
-            SMALL_VANS,
-            (&[&[1], &[2]], 42),
-            (&[&[1], &[2]], 42),
-            0
-        )?
-    );
-    Ok(())
-}
-
-/// A 2-opt move exchanges the ends of two full routes.
-#[test]
-fn exchanged_ends(rt: HostRuntime) -> Result<(), Fail> {
-    assert!(rt;
-        becomes(
-            rt.alloc(),
-            TWO_SIDES,
-            (&[&[1, 4], &[2, 3]], 120),
-            (&[&[1, 2], &[3, 4]], 80),
-            1
-        )?
-    );
-    Ok(())
-}
-
-/// An Or-move puts the only customer of a route between two others, which uses up the capacity.
-#[test]
-fn emptied_route(rt: HostRuntime) -> Result<(), Fail> {
-    assert!(rt;
-        becomes(
-            rt.alloc(),
-            BETWEEN,
-            (&[&[1], &[2, 3, 4, 5]], 130),
-            (&[&[2, 3, 1, 4, 5]], 110),
-            1
-        )?
-    );
-    Ok(())
-}
-
-/// There is no room for customer 1 between the others. So customer 5, at the end of their route, becomes a route of its
-/// own, and customer 1 takes its place.
-#[test]
-fn no_room_between(rt: HostRuntime) -> Result<(), Fail> {
-    assert!(rt;
-        becomes(
-            rt.alloc(),
-            NO_ROOM_BETWEEN,
-            (&[&[1], &[2, 3, 4, 5]], 130),
-            (&[&[1, 4, 3, 2], &[5]], 125),
-            1
-        )?
-    );
-    Ok(())
-}
-
-/// A customer without a demand fits on a full route.
-#[test]
-fn demand_of_zero(rt: HostRuntime) -> Result<(), Fail> {
-    assert!(rt;
-        becomes(
-            rt.alloc(),
-            NO_DEMAND,
-            (&[&[1], &[2]], 42),
-            (&[&[1, 2]], 22),
-            1
-        )?
-    );
-    Ok(())
 }

@@ -1,89 +1,157 @@
 //! Worked examples of stretches.
-ghost use Rattle.std.specs.Prelude.{◌≡◌};
+ghost use Rattle.tk_lists.specs.Solution.{lists_of};
+ghost use Rattle.tk_rings.specs.Capacities.{IsFitting};
+ghost use Rattle.tk_rings.specs.Rings.{IsLight};
+ghost use Rattle.tk_routes.specs.Cvrps.{instance_of};
+ghost use Rattle.tk_routes.specs.Routes.{AreRoutes};
 
-use crate::given::{TWO_SIDES, are_valid, claim, problem_of};
+use crate::given::{TWO_SIDES, claim, cvrp_of, expect, expect_valid, problem_of};
 use std::alloc::Global;
-use std::test::Fail;
+use std::process::Abort;
 use tk_rings::{Capacity, Stretch, ring_demands, ring_of};
 use tk_routes::Cvrp;
+use tk_text::{Problem, SolText};
 use tk_tour::{ArrayTour, TourStore};
 
-/// Whether the ring of the routes 4, 3 and 2, 1, each of load 2, has this stretch.
-fn is_stretch(
-    alloc: Global,
-    from: u32,
-    to: u32,
-    forward: bool,
-    want: Stretch,
-) -> Result<bool, Fail> {
-    let problem = problem_of(alloc, TWO_SIDES)?;
-    let Some(cvrp) = Cvrp::of(&problem) else {
-        return Ok(false);
-    };
-    let text = claim(alloc, &[&[4, 3], &[2, 1]], 80)?;
-    if !are_valid(alloc, &cvrp, &text)? {
-        return Ok(false);
+/// Whether a stretch contains a copy of the depot, the load before its first copy and after its last, and whether the
+/// routes between two copies fit.
+type Loads = (bool, u64, u64, bool);
+
+/// The two ends of a stretch of the ring 5 4 3 6 2 1 7, whether it is read forward, and its loads.
+static STRETCHES: [(u32, u32, bool, Loads); 5] = [
+    (4, 3, true, (false, 2, 2, true)),
+    (4, 2, true, (true, 2, 1, true)),
+    (2, 4, false, (true, 1, 2, true)),
+    (3, 6, true, (true, 1, 0, true)),
+    (7, 7, true, (true, 0, 0, true)),
+];
+
+/// Two stretches, a capacity, and the stretch of both.
+static JOINED: [(Loads, Loads, u64, Loads); 5] = [
+    // the route between the copies has a load of 4
+    (
+        (true, 5, 1, true),
+        (true, 3, 2, true),
+        4,
+        (true, 5, 2, true),
+    ),
+    (
+        (true, 5, 1, true),
+        (true, 3, 2, true),
+        3,
+        (true, 5, 2, false),
+    ),
+    (
+        (true, 5, 1, true),
+        (false, 3, 3, true),
+        4,
+        (true, 5, 4, true),
+    ),
+    (
+        (false, 3, 3, true),
+        (true, 3, 2, true),
+        4,
+        (true, 6, 2, true),
+    ),
+    (
+        (false, 3, 3, true),
+        (false, 1, 1, true),
+        4,
+        (false, 4, 4, true),
+    ),
+];
+
+/// A stretch, a capacity, and whether the stretch fits as a ring.
+static CLOSED: [(Loads, u64, bool); 4] = [
+    ((true, 5, 1, true), 6, true),
+    ((true, 5, 1, true), 5, false),
+    ((false, 4, 4, true), 4, true),
+    ((false, 4, 4, true), 3, false),
+];
+
+/// The stretch with these loads.
+fn stretch_of(rt: &impl Abort, loads: Loads) -> Stretch
+    ensures { IsLight result }
+{
+    let (parted, head, tail, fits) = loads;
+    expect(rt, head <= 9);
+    expect(rt, tail <= 9);
+    Stretch {
+        parted,
+        head,
+        tail,
+        fits,
     }
-    let ring = ring_of(alloc, &cvrp, &text.routes)?;
-    let demands = ring_demands(alloc, &cvrp)?;
+}
+
+/// Checks the stretch from an element of a ring to another one.
+fn expect_stretch<S: TourStore>(
+    rt: &impl Abort,
+    vehicles: &Capacity<'_>,
+    ring: &S,
+    row: (u32, u32, bool, Loads),
+)
+    requires { IsFitting vehicles.now.capacity vehicles.now.demands.now (S.cities ring.now) }
+{
+    let (from, to, forward, loads) = row;
+    let n = ring.size();
+    expect(rt, 1 <= from);
+    expect(rt, from <= n);
+    expect(rt, 1 <= to);
+    expect(rt, to <= n);
+    expect(
+        rt,
+        vehicles.stretch(ring, from, to, forward) == stretch_of(rt, loads),
+    );
+}
+
+/// Checks the stretches of the ring of the routes 4, 3 and 2, 1.
+fn expect_stretches(rt: &impl Abort, alloc: Global, cvrp: &Cvrp<'_>, routes: &[Vec<u32>])
+    requires { AreRoutes (instance_of cvrp.now) (lists_of routes.now) }
+{
+    let ring = ring_of(alloc, cvrp, routes).expect(rt, "memory for a ring");
+    let tour = ArrayTour::from_list(alloc, &ring).expect(rt, "a ring");
+    let demands = ring_demands(alloc, cvrp).expect(rt, "memory for demands");
     let vehicles = Capacity {
         demands: &demands,
         capacity: cvrp.capacity() as u64,
     };
-    let tour = ArrayTour::from_list(alloc, &ring)?;
-    if from == 0 || from > tour.size() || to == 0 || to > tour.size() {
-        return Ok(false);
-    }
-    Ok(vehicles.stretch(&tour, from, to, forward) == want)
-}
-
-/// A stretch with a copy of the depot whose routes fit.
-fn parted(head: u64, tail: u64) -> Stretch
-    ensures { (result.head ≡ head) × (result.tail ≡ tail) }
-{
-    Stretch {
-        parted: true,
-        head,
-        tail,
-        fits: true,
+    for row in &STRETCHES {
+        expect_stretch(rt, &vehicles, &tour, *row);
     }
 }
 
-/// A stretch without a copy.
-fn whole(load: u64) -> Stretch
-    ensures { (result.head ≡ load) × (result.tail ≡ load) }
-{
-    Stretch {
-        parted: false,
-        head: load,
-        tail: load,
-        fits: true,
-    }
+/// Like `expect_stretches`, for a problem and a solution.
+fn expect_all(rt: &impl Abort, alloc: Global, problem: &Problem, text: &SolText) {
+    let cvrp = cvrp_of(rt, problem);
+    expect_valid(rt, alloc, &cvrp, text);
+    expect_stretches(rt, alloc, &cvrp, &text.routes);
 }
 
 #[test]
-fn stretches_of_a_ring(rt: HostRuntime) -> Result<(), Fail> {
-    assert!(rt; is_stretch(rt.alloc(), 4, 3, true, whole(2))?);
-    assert!(rt; is_stretch(rt.alloc(), 4, 2, true, parted(2, 1))?);
-    assert!(rt; is_stretch(rt.alloc(), 2, 4, false, parted(1, 2))?);
-    assert!(rt; is_stretch(rt.alloc(), 3, 6, true, parted(1, 0))?);
-    assert!(rt; is_stretch(rt.alloc(), 7, 7, true, parted(0, 0))?);
-    Ok(())
+fn stretches_of_a_ring(rt: HostRuntime) {
+    let problem = problem_of(&rt, rt.alloc(), TWO_SIDES);
+    let text = claim(&rt, rt.alloc(), &[&[4, 3], &[2, 1]], 80);
+    expect_all(&rt, rt.alloc(), &problem, &text);
 }
 
-/// The route between the copies has a load of 4.
 #[test]
 fn joined_stretches(rt: HostRuntime) {
-    let before = parted(5, 1);
-    let after = parted(3, 2);
-    assert!(rt; before.join(after, 4) == parted(5, 2));
-    assert!(rt; !before.join(after, 3).fits);
-    assert!(rt; before.join(whole(3), 4) == parted(5, 4));
-    assert!(rt; whole(3).join(after, 4) == parted(6, 2));
-    assert!(rt; whole(3).join(whole(1), 4) == whole(4));
-    assert!(rt; before.turned() == parted(1, 5));
-    assert!(rt; before.is_closed(6));
-    assert!(rt; !before.is_closed(5));
-    assert!(rt; whole(4).is_closed(4));
-    assert!(rt; !whole(4).is_closed(3));
+    for (one, other, capacity, both) in &JOINED {
+        let (one, other) = (stretch_of(&rt, *one), stretch_of(&rt, *other));
+        expect(&rt, one.join(other, *capacity) == stretch_of(&rt, *both));
+    }
+}
+
+#[test]
+fn closed_stretches(rt: HostRuntime) {
+    for (loads, capacity, want) in &CLOSED {
+        expect(&rt, stretch_of(&rt, *loads).is_closed(*capacity) == *want);
+    }
+}
+
+#[test]
+fn a_turned_stretch(rt: HostRuntime) {
+    let turned = stretch_of(&rt, (true, 5, 1, true)).turned();
+    expect(&rt, turned == stretch_of(&rt, (true, 1, 5, true)));
 }
