@@ -4,7 +4,7 @@ ghost use Rattle.std.specs.Prelude.{⊤};
 use tk_route_search::{RouteProgress, RouteRun, RouteWatch};
 
 /// The trials and first descents, those that found better routes, and the runs.
-#[derive(Clone, Copy, PartialEq, Eq, Debug)]
+#[derive(Drop)]
 pub struct Counts {
     pub trials: u32,
     pub better: u32,

@@ -1,15 +1,15 @@
 //! Worked examples of searches between routes. Their results are those of a second implementation.
-ghost use Rattle.std.specs.Prelude.{◌≤◌};
+ghost use Rattle.std.specs.Prelude.{◌≡◌, ◌≤◌, true};
 ghost use Rattle.tk_routes.specs.Cvrps.{instance_of};
 ghost use Rattle.tk_route_search.specs.Tasks.{AreGiven};
 
 use crate::counting::Counts;
-use std::alloc::{AllocError, Global};
-use std::test::Fail;
+use std::alloc::Global;
+use std::process::Abort;
 use tk_ring_search::RingTotals;
 use tk_route_search::{RouteRun, RouteStart, SearchOptions, SolvedRoutes, search_routes};
 use tk_routes::{Cvrp, RouteVerdict, check_routes};
-use tk_text::{FromRead, SolText, read_problem};
+use tk_text::{FromRead, Problem, SolText, read_problem};
 
 /// Two customers on each side of the depot, and vehicles with room for two.
 const TWO_SIDES: &[u8] =
@@ -31,204 +31,282 @@ const AUGERAT: &[u8] =
     19 1\n20 24\n21 8\n22 12\n23 4\n24 8\n25 24\n26 24\n27 2\n28 20\n29 15\n30 2\n31 14\n32 9\nDEPOT_SECTION\n1\n\
     -1\nEOF\n";
 
-/// The result of a search of two runs with this many trials each, and what its observer was shown.
-fn search(
-    alloc: Global,
-    cvrp: &Cvrp<'_>,
-    start: RouteStart<'_>,
+/// A search of two runs, and its results.
+struct Row<'a> {
+    /// The routes that each run begins with; none for savings routes.
+    given: &'a [&'a [u32]],
     trials: u32,
     final_sweep: bool,
-) -> Result<(SolvedRoutes, Counts), AllocError>
-    requires given { AreGiven (instance_of cvrp.now) start }
-    requires trials { (1 ≤ trials) × (trials ≤ 1000000) }
+    /// The cost of the result, and that of the start.
+    costs: [i64; 2],
+    /// The number of routes that each run began with.
+    start_routes: u32,
+    /// The length of the near lists that savings routes were made with.
+    candidates: Option<u32>,
+    routes: &'a [&'a [u32]],
+    /// The reports of the first runs.
+    reports: &'a [RouteRun],
+    /// What an observer counts: trials and first descents, those that found better routes, and runs.
+    shown: [u32; 3],
+}
+
+/// A problem, and searches of it.
+struct Case<'a> {
+    problem: &'a [u8],
+    rows: &'a [Row<'a>],
+}
+
+/// The report of both runs on two sides of the depot.
+const REPORT: RouteRun = RouteRun {
+    best: 44,
+    routes: 2,
+    totals: RingTotals {
+        start: 44,
+        trials: 3,
+        kicks: 0,
+        draws: 0,
+        better: 0,
+        moves: 0,
+        tests: 177,
+        swaps: 0,
+        passes: 1,
+        copied: 0,
+    },
+};
+
+static CASES: [Case<'static>; 3] = [
+    Case {
+        problem: TWO_SIDES,
+        rows: &[
+            // The savings routes are the best. With 7 elements no kick is drawn.
+            Row {
+                given: &[],
+                trials: 3,
+                final_sweep: false,
+                costs: [44, 44],
+                start_routes: 2,
+                candidates: Some(3),
+                routes: &[&[1, 2], &[3, 4]],
+                reports: &[REPORT, REPORT],
+                shown: [8, 2, 2],
+            },
+            // One of the given routes is empty. The first descent exchanges the ends of the others.
+            Row {
+                given: &[&[1, 3], &[], &[2, 4]],
+                trials: 3,
+                final_sweep: false,
+                costs: [44, 84],
+                start_routes: 2,
+                candidates: None,
+                routes: &[&[1, 2], &[3, 4]],
+                reports: &[],
+                shown: [8, 2, 2],
+            },
+        ],
+    },
+    Case {
+        problem: ONE_CUSTOMER,
+        rows: &[
+            // There is nothing to search for.
+            Row {
+                given: &[],
+                trials: 3,
+                final_sweep: false,
+                costs: [20, 20],
+                start_routes: 1,
+                candidates: Some(1),
+                routes: &[&[1]],
+                reports: &[],
+                shown: [0, 0, 0],
+            },
+        ],
+    },
+    Case {
+        problem: AUGERAT,
+        rows: &[
+            // The optimum, in 40 trials of swept descents.
+            Row {
+                given: &[],
+                trials: 40,
+                final_sweep: true,
+                costs: [784, 842],
+                start_routes: 5,
+                candidates: Some(20),
+                routes: &[
+                    &[6, 3, 2, 23, 4, 11, 28, 14],
+                    &[12, 1, 16, 30],
+                    &[20, 5, 25, 10, 15, 22, 9, 8, 18, 29],
+                    &[21, 31, 19, 17, 13, 7, 26],
+                    &[24, 27],
+                ],
+                reports: &[RouteRun {
+                    best: 784,
+                    routes: 5,
+                    totals: RingTotals {
+                        start: 842,
+                        trials: 40,
+                        kicks: 40,
+                        draws: 285,
+                        better: 4,
+                        moves: 534,
+                        tests: 461_873,
+                        swaps: 2_840,
+                        passes: 88,
+                        copied: 185,
+                    },
+                }],
+                shown: [82, 8, 2],
+            },
+            // The cheaper of two runs whose descents are not swept.
+            Row {
+                given: &[],
+                trials: 40,
+                final_sweep: false,
+                costs: [827, 842],
+                start_routes: 5,
+                candidates: Some(20),
+                routes: &[
+                    &[6, 23, 28, 4, 11, 8, 18, 9, 22, 14],
+                    &[12, 1, 13, 7, 16],
+                    &[20, 5, 25, 10, 15, 29, 27],
+                    &[21, 31, 19, 17, 2, 3, 26],
+                    &[24, 30],
+                ],
+                reports: &[],
+                shown: [82, 4, 2],
+            },
+        ],
+    },
+];
+
+/// Checks that a condition is true. The proof of a call is much shorter than that of an `assert!`.
+pub fn expect(rt: &impl Abort, is: bool)
+    ensures { is ≡ true }
 {
-    let options = SearchOptions {
+    assert!(rt; is);
+}
+
+/// Checks that a list has these elements.
+pub fn expect_list(rt: &impl Abort, list: &[u32], want: &[u32]) {
+    expect(rt, list == want);
+}
+
+/// The options of the search of a row.
+fn options_of<'a>(rt: &impl Abort, start: RouteStart<'a>, row: &Row<'_>) -> SearchOptions<'a>
+    ensures { result.start ≡ start.entry }
+{
+    expect(rt, 1 <= row.trials);
+    expect(rt, row.trials <= 1_000_000);
+    SearchOptions {
         start,
         runs: 2,
-        trials,
+        trials: row.trials,
         seed: 1,
         candidates: 12,
         or_segment: 3,
-        final_sweep,
-    };
+        final_sweep: row.final_sweep,
+    }
+}
+
+/// Checks that these are the routes.
+fn expect_routes(rt: &impl Abort, routes: &[Vec<u32>], want: &[&[u32]]) {
+    expect(rt, routes.len() == want.len());
+    for k in 0..want.len() {
+        expect_list(rt, &routes[k], want[k]);
+    }
+}
+
+/// Checks the reports of the first runs.
+fn expect_reports(rt: &impl Abort, reports: &[RouteRun], want: &[RouteRun]) {
+    expect(rt, want.len() <= reports.len());
+    for k in 0..want.len() {
+        expect(rt, reports[k] == want[k]);
+    }
+}
+
+/// Checks the result of a search.
+fn expect_solved(rt: &impl Abort, solved: &SolvedRoutes, row: &Row<'_>) {
+    expect(rt, solved.cost == row.costs[0]);
+    expect(rt, solved.start == row.costs[1]);
+    expect(rt, solved.start_routes == row.start_routes);
+    expect(rt, solved.candidates == row.candidates);
+    expect_routes(rt, &solved.routes, row.routes);
+    expect_reports(rt, &solved.runs, row.reports);
+}
+
+/// Checks a search from this start.
+fn expect_search(
+    rt: &impl Abort,
+    alloc: Global,
+    cvrp: &Cvrp<'_>,
+    start: RouteStart<'_>,
+    row: &Row<'_>,
+)
+    requires { AreGiven (instance_of cvrp.now) start }
+{
     let mut counts = Counts {
         trials: 0,
         better: 0,
         runs: 0,
     };
-    let solved = search_routes(alloc, cvrp, &options, &mut counts)?;
-    Ok((solved, counts))
-}
-
-/// Whether these are the routes, the cost, the cost of the start, and the length of the near lists that it was made
-/// with.
-fn are(
-    solved: &SolvedRoutes,
-    routes: &[&[u32]],
-    [cost, start]: [i64; 2],
-    candidates: Option<u32>,
-) -> bool {
-    let same = solved
-        .routes
-        .iter()
-        .zip(routes)
-        .all(|(one, other)| one.as_slice() == *other);
-    same && solved.routes.len() == routes.len()
-        && solved.cost == cost
-        && solved.start == start
-        && solved.candidates == candidates
-}
-
-/// The savings routes are the best. With 7 elements no kick is drawn.
-#[test]
-fn two_sides_of_the_depot(rt: HostRuntime) -> Result<(), Fail> {
-    let problem = read_problem(rt.alloc(), &mut FromRead::new(TWO_SIDES))?;
-    let Some(cvrp) = Cvrp::of(&problem) else {
-        return Ok(());
-    };
-    let (solved, counts) = search(rt.alloc(), &cvrp, RouteStart::Ladder, 3, false)?;
-    assert!(rt; are(&solved, &[&[1, 2], &[3, 4]], [44, 44], Some(3)));
-    let report = RouteRun {
-        best: 44,
-        routes: 2,
-        totals: RingTotals {
-            start: 44,
-            trials: 3,
-            kicks: 0,
-            draws: 0,
-            better: 0,
-            moves: 0,
-            tests: 177,
-            swaps: 0,
-            passes: 1,
-            copied: 0,
-        },
-    };
-    assert!(rt; solved.runs.as_slice() == [report, report].as_slice());
-    assert!(rt;
-        counts
-            == Counts {
-                trials: 8,
-                better: 2,
-                runs: 2
-            }
+    let options = options_of(rt, start, row);
+    let solved = search_routes(alloc, cvrp, &options, &mut counts).expect(
+        rt,
+        "memory for a search",
     );
-    Ok(())
+    expect_solved(rt, &solved, row);
+    expect(rt, solved.runs.len() == counts.runs as usize);
+    expect_list(rt, &[counts.trials, counts.better, counts.runs], &row.shown);
 }
 
-/// There is nothing to search for.
-#[test]
-fn one_customer(rt: HostRuntime) -> Result<(), Fail> {
-    let problem = read_problem(rt.alloc(), &mut FromRead::new(ONE_CUSTOMER))?;
-    let Some(cvrp) = Cvrp::of(&problem) else {
-        return Ok(());
-    };
-    let (solved, counts) = search(rt.alloc(), &cvrp, RouteStart::Ladder, 3, false)?;
-    assert!(rt; are(&solved, &[&[1]], [20, 20], Some(1)));
-    assert!(rt; solved.runs.is_empty());
-    assert!(rt;
-        counts
-            == Counts {
-                trials: 0,
-                better: 0,
-                runs: 0
-            }
-    );
-    Ok(())
-}
-
-/// One of the given routes is empty. The first descent exchanges the ends of the others.
-#[test]
-fn given_routes(rt: HostRuntime) -> Result<(), Fail> {
-    let problem = read_problem(rt.alloc(), &mut FromRead::new(TWO_SIDES))?;
-    let Some(cvrp) = Cvrp::of(&problem) else {
-        return Ok(());
-    };
-    let mut routes = Vec::new(rt.alloc());
-    for route in [[1u32, 3].as_slice(), &[], &[2, 4]] {
-        routes.push(route.to_vec(rt.alloc())?)?;
-    }
-    let text = SolText { routes, cost: 84 };
-    let verdict = check_routes(rt.alloc(), &cvrp, &text)?;
+/// Checks a search from the routes of a solution.
+fn expect_from(rt: &impl Abort, alloc: Global, cvrp: &Cvrp<'_>, given: &SolText, row: &Row<'_>) {
+    let verdict = check_routes(alloc, cvrp, given).expect(rt, "memory for a check");
     let RouteVerdict::Valid { .. } = verdict else {
-        assert!(rt; false);
-        return Ok(());
+        rt.panic("routes that are not valid")
     };
-    let start = RouteStart::Routes(&text.routes);
-    let (solved, counts) = search(rt.alloc(), &cvrp, start, 3, false)?;
-    assert!(rt; are(&solved, &[&[1, 2], &[3, 4]], [44, 84], None));
-    assert!(rt; solved.start_routes == 2);
-    assert!(rt;
-        counts
-            == Counts {
-                trials: 8,
-                better: 2,
-                runs: 2
-            }
-    );
-    Ok(())
+    expect_search(rt, alloc, cvrp, RouteStart::Routes(&given.routes), row);
 }
 
-/// The optimum, in 40 trials of swept descents.
-#[test]
-fn routes_of_augerat(rt: HostRuntime) -> Result<(), Fail> {
-    let problem = read_problem(rt.alloc(), &mut FromRead::new(AUGERAT))?;
-    let Some(cvrp) = Cvrp::of(&problem) else {
-        return Ok(());
-    };
-    let (solved, counts) = search(rt.alloc(), &cvrp, RouteStart::Ladder, 40, true)?;
-    let want: [&[u32]; 5] = [
-        &[6, 3, 2, 23, 4, 11, 28, 14],
-        &[12, 1, 16, 30],
-        &[20, 5, 25, 10, 15, 22, 9, 8, 18, 29],
-        &[21, 31, 19, 17, 13, 7, 26],
-        &[24, 27],
-    ];
-    assert!(rt; are(&solved, &want, [784, 842], Some(20)));
-    let first = RouteRun {
-        best: 784,
-        routes: 5,
-        totals: RingTotals {
-            start: 842,
-            trials: 40,
-            kicks: 40,
-            draws: 285,
-            better: 4,
-            moves: 534,
-            tests: 461_873,
-            swaps: 2_840,
-            passes: 88,
-            copied: 185,
-        },
-    };
-    assert!(rt; solved.runs.first() == Some(&first));
-    assert!(rt;
-        counts
-            == Counts {
-                trials: 82,
-                better: 8,
-                runs: 2
-            }
-    );
-    Ok(())
+/// The given routes of a row, with their cost.
+fn given_of(rt: &impl Abort, alloc: Global, row: &Row<'_>) -> SolText {
+    let mut routes = Vec::new(alloc);
+    for route in row.given {
+        let route = route.to_vec(alloc).expect(rt, "memory for a route");
+        routes.push(route).expect(rt, "memory for routes");
+    }
+    SolText {
+        routes,
+        cost: row.costs[1],
+    }
 }
 
-/// The cheaper of two runs whose descents are not swept.
-#[test]
-fn descents_of_one_pass(rt: HostRuntime) -> Result<(), Fail> {
-    let problem = read_problem(rt.alloc(), &mut FromRead::new(AUGERAT))?;
-    let Some(cvrp) = Cvrp::of(&problem) else {
-        return Ok(());
+/// Checks the search of a row.
+fn expect_row(rt: &impl Abort, alloc: Global, cvrp: &Cvrp<'_>, row: &Row<'_>) {
+    if row.given.is_empty() {
+        return expect_search(rt, alloc, cvrp, RouteStart::Ladder, row);
+    }
+    expect_from(rt, alloc, cvrp, &given_of(rt, alloc, row), row);
+}
+
+/// Checks searches of a problem.
+fn expect_rows(rt: &impl Abort, alloc: Global, problem: &Problem, rows: &[Row<'_>]) {
+    let Some(cvrp) = Cvrp::of(problem) else {
+        rt.panic("a problem without routes")
     };
-    let (solved, counts) = search(rt.alloc(), &cvrp, RouteStart::Ladder, 40, false)?;
-    assert!(rt; solved.cost == 827);
-    assert!(rt;
-        counts
-            == Counts {
-                trials: 82,
-                better: 4,
-                runs: 2
-            }
-    );
-    Ok(())
+    for row in rows {
+        expect_row(rt, alloc, &cvrp, row);
+    }
+}
+
+fn expect_case(rt: &impl Abort, alloc: Global, case: &Case<'_>) {
+    let problem = read_problem(alloc, &mut FromRead::new(case.problem)).expect(rt, "a problem");
+    expect_rows(rt, alloc, &problem, case.rows);
+}
+
+#[test]
+fn worked_searches(rt: HostRuntime) {
+    for case in &CASES {
+        expect_case(&rt, rt.alloc(), case);
+    }
 }
