@@ -2,10 +2,12 @@
 ghost use Rattle.std.specs.Prelude.{◌≡◌, ◌≤◌, pos, length};
 ghost use Rattle.tk_descent.specs.Steps.{AreTrueOf};
 ghost use Rattle.tk_tour.specs.ArrayTours.{order_of};
+ghost use Rattle.tk_tour.specs.JournalTours.{cities_of};
 ghost use Rattle.tk_tour.specs.Tour.{tour_length};
 
 use crate::given::{
-    all_awake, expect_printed, expect_report, journal_of, near_of, tour_of, triangle,
+    all_awake, expect, expect_list, expect_printed, expect_report, journal_of, near_of, none_awake,
+    one_awake, tour_of, triangle,
 };
 use std::alloc::{AllocError, Global};
 use std::process::Abort;
@@ -94,43 +96,40 @@ fn descend_in_passes<S: TourStore, G: Gains>(
     requires before { before ≡ pos (tour_length (G.distance gains.old) (S.cities tour.old)) }
     ensures size { length (S.cities tour.new) ≡ length (S.cities tour.old) }
 {
-    let n = tour.size();
-    let mut waking = Waking::new(alloc, n).expect(rt, "memory for the cities awake");
-    assert!(rt; 2 <= n);
-    waking.wake(2);
+    let mut waking = one_awake(rt, alloc, tour.size());
     let swept = descend_swept(tour, gains, near, &mut waking, or_segment, before);
-    assert!(rt; swept.passes == passes && waking.take().is_none());
+    expect(rt, swept.passes == passes);
+    expect(rt, waking.take().is_none());
     swept.descent
 }
 
-/// Makes a descent of the tour with all cities awake or, if `passes` is given, a swept one of this many passes.
-fn descend_by_distances<M: Metric>(
+/// Makes a descent of the tour with all cities awake or, if `passes` is not 0, a swept one of this many passes.
+fn descend_by<S: TourStore, G: Gains>(
     rt: &impl Abort,
     alloc: Global,
-    metric: &M,
-    tour: &mut ArrayTour,
+    tour: &mut S,
+    gains: &mut G,
     near: &Near,
     or_segment: u32,
-    passes: Option<u64>,
+    before: i64,
+    passes: u64,
 ) -> Report
-    requires metric { M.size_of metric.now ≡ length (order_of tour.old) }
-    requires near { near.now.size ≡ length (order_of tour.old) }
+    requires gains { G.size_of gains.old ≡ length (S.cities tour.old) }
+    requires near { near.now.size ≡ length (S.cities tour.old) }
     requires most { (1 ≤ or_segment) × (or_segment ≤ 3) }
-    ensures size { length (order_of tour.new) ≡ length (order_of tour.old) }
+    requires before { before ≡ pos (tour_length (G.distance gains.old) (S.cities tour.old)) }
+    ensures size { length (S.cities tour.new) ≡ length (S.cities tour.old) }
 {
-    let before = length_of(metric, tour);
-    let mut gains = Probe::new(metric);
-    match passes {
-        None => descend_awake(rt, alloc, tour, &mut gains, near, or_segment, before),
-        Some(passes) => descend_in_passes(
-            rt, alloc, tour, &mut gains, near, or_segment, before, passes,
-        ),
+    if passes == 0 {
+        return descend_awake(rt, alloc, tour, gains, near, or_segment, before);
     }
+    descend_in_passes(rt, alloc, tour, gains, near, or_segment, before, passes)
 }
 
-/// The length of the near lists, and the maximum length of the segments that are moved; the passes of a swept descent.
-/// Then the lengths before and after; the moves, looks, tests and swaps; and the canonical form of the tour after it.
-type Row<'a> = ((u32, u32), Option<u64>, [i64; 2], [u64; 4], &'a [u32]);
+/// The length of the near lists, and the maximum length of the segments that are moved; the passes of a swept descent,
+/// or 0. Then the lengths before and after; the moves, looks, tests and swaps; and the canonical form of the tour after
+/// it.
+type Row<'a> = ((u32, u32), u64, [i64; 2], [u64; 4], &'a [u32]);
 
 /// Checks that a descent of the tour has the results of the row, and ends in a local optimum.
 fn expect_results<M: Metric>(
@@ -144,13 +143,14 @@ fn expect_results<M: Metric>(
     requires metric { M.size_of metric.now ≡ length (order_of tour.old) }
     requires near { near.now.size ≡ length (order_of tour.old) }
 {
-    let ((_, or_segment), passes, lengths, counts, printed) = *row;
-    assert!(rt; 1 <= or_segment);
-    assert!(rt; or_segment <= 3);
-    let report = descend_by_distances(rt, alloc, metric, tour, near, or_segment, passes);
-    expect_report(rt, &report, lengths, counts);
-    assert!(rt; is_local_optimum(tour, metric, near, or_segment));
-    expect_printed(rt, alloc, tour, printed);
+    let or_segment = row.0.1;
+    expect(rt, 1 <= or_segment);
+    expect(rt, or_segment <= 3);
+    let before = length_of(metric, tour);
+    let mut gains = Probe::new(metric);
+    let report = descend_by(rt, alloc, tour, &mut gains, near, or_segment, before, row.1);
+    expect_report(rt, &report, row.2, row.3);
+    expect(rt, is_local_optimum(tour, metric, near, or_segment));
 }
 
 /// Like `expect_results`, for a tour of the cities in this order.
@@ -163,8 +163,9 @@ fn expect_descent<M: Metric>(
 ) {
     let near = near_of(rt, alloc, metric, row.0.0);
     let mut tour = tour_of(rt, alloc, cities);
-    assert!(rt; tour.size() == metric.size());
+    expect(rt, tour.size() == metric.size());
     expect_results(rt, alloc, metric, &mut tour, &near, row);
+    expect_printed(rt, alloc, &tour, row.4);
 }
 
 fn expect_descents<M: Metric>(
@@ -192,15 +193,15 @@ const DESCENTS: &[Descents<'static>] = &[
     (
         &[5],
         &[1, 2],
-        &[((1, 3), None, [10, 10], [0, 2, 4, 0], &[1, 2])],
+        &[((1, 3), 0, [10, 10], [0, 2, 4, 0], &[1, 2])],
     ),
     // (0,0) (3,0) (0,4), EUC_2D
     (
         &[3, 4, 5],
         &[1, 2, 3],
         &[
-            ((2, 3), None, [12, 12], [0, 3, 18, 0], &[1, 2, 3]),
-            ((2, 3), Some(1), [12, 12], [0, 3, 18, 0], &[1, 2, 3]),
+            ((2, 3), 0, [12, 12], [0, 3, 18, 0], &[1, 2, 3]),
+            ((2, 3), 1, [12, 12], [0, 3, 18, 0], &[1, 2, 3]),
         ],
     ),
     // a crossing
@@ -208,27 +209,27 @@ const DESCENTS: &[Descents<'static>] = &[
         SQUARE,
         &[1, 2, 3, 4],
         &[
-            ((3, 3), None, [48, 40], [1, 5, 57, 1], &[1, 3, 2, 4]),
-            ((3, 2), None, [48, 40], [1, 5, 57, 1], &[1, 3, 2, 4]),
-            ((3, 1), None, [48, 40], [1, 5, 41, 1], &[1, 3, 2, 4]),
-            ((3, 3), Some(2), [48, 40], [1, 9, 113, 1], &[1, 3, 2, 4]),
+            ((3, 3), 0, [48, 40], [1, 5, 57, 1], &[1, 3, 2, 4]),
+            ((3, 2), 0, [48, 40], [1, 5, 57, 1], &[1, 3, 2, 4]),
+            ((3, 1), 0, [48, 40], [1, 5, 41, 1], &[1, 3, 2, 4]),
+            ((3, 3), 2, [48, 40], [1, 9, 113, 1], &[1, 3, 2, 4]),
         ],
     ),
     // UPPER_ROW 1 2 3 4 5 6: all tours are equally long
     (
         &[1, 2, 4, 3, 5, 6],
         &[1, 2, 3, 4],
-        &[((3, 3), None, [14, 14], [0, 4, 56, 0], &[1, 2, 3, 4])],
+        &[((3, 3), 0, [14, 14], [0, 4, 56, 0], &[1, 2, 3, 4])],
     ),
     // UPPER_ROW 10 1 10 10 1 100 10 10 10 10: a segment moves
     (
         &[10, 1, 1, 10, 100, 10, 10, 10, 10, 10],
         &[1, 2, 3, 4, 5],
         &[
-            ((1, 3), None, [41, 32], [1, 6, 31, 2], &[1, 3, 2, 5, 4]),
-            ((1, 2), None, [41, 32], [1, 6, 26, 2], &[1, 3, 2, 5, 4]),
-            ((1, 1), None, [41, 32], [1, 6, 19, 2], &[1, 3, 2, 5, 4]),
-            ((1, 3), Some(2), [41, 32], [1, 11, 59, 2], &[1, 3, 2, 5, 4]),
+            ((1, 3), 0, [41, 32], [1, 6, 31, 2], &[1, 3, 2, 5, 4]),
+            ((1, 2), 0, [41, 32], [1, 6, 26, 2], &[1, 3, 2, 5, 4]),
+            ((1, 1), 0, [41, 32], [1, 6, 19, 2], &[1, 3, 2, 5, 4]),
+            ((1, 3), 2, [41, 32], [1, 11, 59, 2], &[1, 3, 2, 5, 4]),
         ],
     ),
     // longer segments
@@ -236,11 +237,11 @@ const DESCENTS: &[Descents<'static>] = &[
         UNEVEN,
         &[1, 2, 3, 4, 5],
         &[
-            ((2, 1), None, [29, 21], [2, 7, 37, 2], &[1, 2, 4, 5, 3]),
-            ((2, 2), None, [29, 19], [3, 9, 71, 4], &[1, 3, 2, 5, 4]),
-            ((2, 3), None, [29, 19], [3, 9, 83, 4], &[1, 3, 2, 5, 4]),
-            ((2, 1), Some(2), [29, 21], [2, 12, 71, 2], &[1, 2, 4, 5, 3]),
-            ((2, 2), Some(2), [29, 19], [3, 14, 123, 4], &[1, 3, 2, 5, 4]),
+            ((2, 1), 0, [29, 21], [2, 7, 37, 2], &[1, 2, 4, 5, 3]),
+            ((2, 2), 0, [29, 19], [3, 9, 71, 4], &[1, 3, 2, 5, 4]),
+            ((2, 3), 0, [29, 19], [3, 9, 83, 4], &[1, 3, 2, 5, 4]),
+            ((2, 1), 2, [29, 21], [2, 12, 71, 2], &[1, 2, 4, 5, 3]),
+            ((2, 2), 2, [29, 19], [3, 14, 123, 4], &[1, 3, 2, 5, 4]),
         ],
     ),
 ];
@@ -248,52 +249,53 @@ const DESCENTS: &[Descents<'static>] = &[
 #[test]
 fn known_descents(rt: HostRuntime) {
     for (weights, cities, rows) in DESCENTS {
-        assert!(rt; cities.len() <= 16);
+        expect(&rt, cities.len() <= 16);
         let metric = triangle(&rt, cities.len() as u32, weights);
         expect_descents(&rt, rt.alloc(), &metric, cities, rows);
     }
 }
 
-/// Makes a descent of a tour with no city awake.
-fn descend_asleep<M: Metric>(
+/// Checks that a descent of the crossed square with no city awake does nothing.
+fn expect_asleep<S: TourStore, G: Gains>(
     rt: &impl Abort,
-    alloc: Global,
-    metric: &M,
-    tour: &mut ArrayTour,
+    tour: &mut S,
+    gains: &mut G,
     near: &Near,
-) -> Report
-    requires metric { M.size_of metric.now ≡ length (order_of tour.old) }
-    requires near { near.now.size ≡ length (order_of tour.old) }
-    ensures { length (order_of tour.new) ≡ length (order_of tour.old) }
+    asleep: &mut Waking,
+    before: i64,
+)
+    requires gains { G.size_of gains.old ≡ length (S.cities tour.old) }
+    requires near { near.now.size ≡ length (S.cities tour.old) }
+    requires asleep { asleep.old.size ≡ length (S.cities tour.old) }
+    requires before { before ≡ pos (tour_length (G.distance gains.old) (S.cities tour.old)) }
+    ensures size { length (S.cities tour.new) ≡ length (S.cities tour.old) }
 {
-    let mut asleep = Waking::new(alloc, metric.size()).expect(rt, "memory for the cities awake");
-    let before = length_of(metric, tour);
-    descend(tour, &mut Probe::new(metric), near, &mut asleep, 3, before)
+    let report = descend(tour, gains, near, asleep, 3, before);
+    expect_report(rt, &report, [48, 48], [0; 4]);
 }
 
-/// Checks that a descent of the crossed square with no city awake does nothing, and so does not end in a local optimum.
-fn expect_nothing_done<M: Metric>(
-    rt: &impl Abort,
-    alloc: Global,
-    metric: &M,
-    tour: &mut ArrayTour,
-    near: &Near,
-)
-    requires near { near.now.size ≡ M.size_of metric.now }
-{
-    assert!(rt; tour.size() == metric.size());
-    let report = descend_asleep(rt, alloc, metric, tour, near);
-    expect_report(rt, &report, [48, 48], [0; 4]);
-    assert!(rt; !is_local_optimum(tour, metric, near, 3));
-    assert!(rt; tour.order() == [1, 2, 3, 4].as_slice());
+/// Like `expect_asleep`; the descent does not end in a local optimum.
+fn expect_nothing_done<M: Metric>(rt: &impl Abort, alloc: Global, metric: &M) {
+    let near = near_of(rt, alloc, metric, 3);
+    let mut tour = tour_of(rt, alloc, &[1, 2, 3, 4]);
+    expect(rt, tour.size() == metric.size());
+    let mut asleep = none_awake(rt, alloc, metric.size());
+    let before = length_of(metric, &tour);
+    expect_asleep(
+        rt,
+        &mut tour,
+        &mut Probe::new(metric),
+        &near,
+        &mut asleep,
+        before,
+    );
+    expect(rt, !is_local_optimum(&tour, metric, &near, 3));
+    expect_list(rt, tour.order(), &[1, 2, 3, 4]);
 }
 
 #[test]
 fn crossed_square_asleep(rt: HostRuntime) {
-    let square = triangle(&rt, 4, SQUARE);
-    let near = near_of(&rt, rt.alloc(), &square, 3);
-    let mut tour = tour_of(&rt, rt.alloc(), &[1, 2, 3, 4]);
-    expect_nothing_done(&rt, rt.alloc(), &square, &mut tour, &near);
+    expect_nothing_done(&rt, rt.alloc(), &triangle(&rt, 4, SQUARE));
 }
 
 /// Checks a descent of a tour with a journal, by gains with the default look.
@@ -304,26 +306,52 @@ fn expect_plain_descent<M: Metric>(
     tour: &mut JournalTour<ArrayTour>,
     near: &Near,
 )
-    requires near { near.now.size ≡ M.size_of metric.now }
+    requires metric { M.size_of metric.now ≡ length (cities_of tour.old) }
+    requires near { near.now.size ≡ length (cities_of tour.old) }
 {
-    assert!(rt; tour.size() == metric.size());
     let before = length_of(metric, tour.tour());
     let mut gains = Plain(Probe::new(metric));
     let report = descend_awake(rt, alloc, tour, &mut gains, near, 2, before);
     expect_report(rt, &report, [29, 19], [3, 9, 71, 4]);
+}
+
+/// Like `expect_plain_descent`, for five cities in their order.
+fn expect_by_plain_gains<M: Metric>(rt: &impl Abort, alloc: Global, metric: &M) {
+    let near = near_of(rt, alloc, metric, 2);
+    let tour = tour_of(rt, alloc, &[1, 2, 3, 4, 5]);
+    let mut tour = journal_of(rt, alloc, tour, 9);
+    expect(rt, tour.size() == metric.size());
+    expect_plain_descent(rt, alloc, metric, &mut tour, &near);
     expect_printed(rt, alloc, tour.tour(), &[1, 3, 2, 5, 4]);
 }
 
 #[test]
 fn journal_by_plain_gains(rt: HostRuntime) {
-    let metric = triangle(&rt, 5, UNEVEN);
-    let near = near_of(&rt, rt.alloc(), &metric, 2);
-    let tour = tour_of(&rt, rt.alloc(), &[1, 2, 3, 4, 5]);
-    let mut tour = journal_of(&rt, rt.alloc(), tour, 9);
-    expect_plain_descent(&rt, rt.alloc(), &metric, &mut tour, &near);
+    expect_by_plain_gains(&rt, rt.alloc(), &triangle(&rt, 5, UNEVEN));
 }
 
-/// Makes a descent of five cities with a cache of edge lengths, and returns the cache after it.
+/// Makes a descent with a cache of edge lengths, and returns the cache after it.
+fn descend_with<M: Metric>(
+    rt: &impl Abort,
+    alloc: Global,
+    metric: &M,
+    tour: &mut ArrayTour,
+    near: &Near,
+    steps: Steps,
+) -> Steps
+    requires metric { M.size_of metric.now ≡ length (order_of tour.old) }
+    requires near { near.now.size ≡ length (order_of tour.old) }
+    requires steps { AreTrueOf (M.distance metric.now) steps }
+    ensures { AreTrueOf (M.distance metric.now) result }
+{
+    let before = length_of(metric, tour);
+    let mut gains = Probe::with_steps(metric, steps);
+    let report = descend_awake(rt, alloc, tour, &mut gains, near, 2, before);
+    expect_report(rt, &report, [29, 19], [3, 9, 71, 4]);
+    gains.into_steps()
+}
+
+/// Like `descend_with`, for five cities in their order.
 fn steps_after<M: Metric>(
     rt: &impl Abort,
     alloc: Global,
@@ -336,12 +364,8 @@ fn steps_after<M: Metric>(
     ensures { AreTrueOf (M.distance metric.now) result }
 {
     let mut tour = tour_of(rt, alloc, &[1, 2, 3, 4, 5]);
-    assert!(rt; tour.size() == metric.size());
-    let before = length_of(metric, &tour);
-    let mut gains = Probe::with_steps(metric, steps);
-    let report = descend_awake(rt, alloc, &mut tour, &mut gains, near, 2, before);
-    expect_report(rt, &report, [29, 19], [3, 9, 71, 4]);
-    gains.into_steps()
+    expect(rt, tour.size() == metric.size());
+    descend_with(rt, alloc, metric, &mut tour, near, steps)
 }
 
 /// Makes descents with the same cache, with the cache that is taken from it, and with the empty one that is left.
@@ -384,35 +408,36 @@ fn expect_offer_and_none<S: TourStore, G: Gains>(
     let Some(offer) = look(tour, gains, near, 3, 1) else {
         rt.panic("no offer")
     };
-    assert!(rt; gains.tests() == 1);
+    expect(rt, gains.tests() == 1);
     make(tour, &offer);
-    assert!(rt; look(tour, gains, near, 3, 1).is_none());
-    assert!(rt; gains.tests() == 15);
+    expect(rt, look(tour, gains, near, 3, 1).is_none());
+    expect(rt, gains.tests() == 15);
 }
 
-fn expect_one_offer<M: Metric>(rt: &impl Abort, metric: &M, tour: &mut ArrayTour, near: &Near)
-    requires { near.now.size ≡ M.size_of metric.now }
-{
-    assert!(rt; tour.size() == metric.size());
-    expect_offer_and_none(rt, tour, &mut Probe::new(metric), near);
+fn expect_one_offer<M: Metric>(rt: &impl Abort, alloc: Global, metric: &M) {
+    let near = near_of(rt, alloc, metric, 3);
+    let mut tour = tour_of(rt, alloc, &[1, 2, 3, 4]);
+    expect(rt, tour.size() == metric.size());
+    expect_offer_and_none(rt, &mut tour, &mut Probe::new(metric), &near);
+    expect_printed(rt, alloc, &tour, &[1, 3, 2, 4]);
 }
 
 #[test]
 fn looks_and_makes(rt: HostRuntime) {
-    let square = triangle(&rt, 4, SQUARE);
-    let near = near_of(&rt, rt.alloc(), &square, 3);
-    let mut tour = tour_of(&rt, rt.alloc(), &[1, 2, 3, 4]);
-    expect_one_offer(&rt, &square, &mut tour, &near);
-    expect_printed(&rt, rt.alloc(), &tour, &[1, 3, 2, 4]);
+    expect_one_offer(&rt, rt.alloc(), &triangle(&rt, 4, SQUARE));
+}
+
+/// Checks the gains of four cities.
+fn expect_gains<G: Gains>(rt: &impl Abort, gains: &mut G)
+    requires { G.size_of gains.old ≡ 4 }
+{
+    expect(rt, gains.gain2(1, 2, 3, 4) == 8);
+    expect(rt, gains.gain2(1, 3, 2, 4) == -8);
+    expect(rt, gains.gain3(1, 2, 2, 3, 4, 1) == 0);
+    expect(rt, gains.tests() == 3);
 }
 
 #[test]
 fn gains_of_the_square(rt: HostRuntime) {
-    let metric = triangle(&rt, 4, SQUARE);
-    let mut gains = Probe::new(&metric);
-    let crossed = gains.gain2(1, 2, 3, 4);
-    let straight = gains.gain2(1, 3, 2, 4);
-    let moved = gains.gain3(1, 2, 2, 3, 4, 1);
-    assert!(rt; [crossed, straight, moved] == [8, -8, 0]);
-    assert!(rt; gains.tests() == 3);
+    expect_gains(&rt, &mut Probe::new(&triangle(&rt, 4, SQUARE)));
 }

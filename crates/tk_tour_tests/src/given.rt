@@ -1,5 +1,5 @@
 //! Inputs of tests: tours, near lists, and cities that are awake. A test fails if memory runs out.
-ghost use Rattle.std.specs.Prelude.{◌≡◌, ◌≢◌, ◌≤◌, ◌<◌};
+ghost use Rattle.std.specs.Prelude.{◌≡◌, ◌≢◌, ◌≤◌, ◌<◌, true};
 ghost use Rattle.tk_metric.specs.Near.{AreNearest};
 ghost use Rattle.tk_tour.specs.ArrayTours.{order_of};
 
@@ -9,6 +9,18 @@ use tk_descent::{Report, Waking};
 use tk_metric::{Metric, Near, Triangle, near_scan};
 use tk_tour::{ArrayTour, JournalTour, UndoStore};
 
+/// Checks that a condition is true. The proof of a call is much shorter than that of an `assert!`.
+pub fn expect(rt: &impl Abort, is: bool)
+    ensures { is ≡ true }
+{
+    assert!(rt; is);
+}
+
+/// Checks that a list has these elements.
+pub fn expect_list(rt: &impl Abort, list: &[u32], want: &[u32]) {
+    expect(rt, list == want);
+}
+
 /// Eight cities in the order of their numbers.
 pub const EIGHT: [u32; 8] = [1, 2, 3, 4, 5, 6, 7, 8];
 
@@ -16,10 +28,10 @@ pub const EIGHT: [u32; 8] = [1, 2, 3, 4, 5, 6, 7, 8];
 pub fn triangle<'a>(rt: &impl Abort, n: u32, weights: &'a [u32]) -> Triangle<'a>
     ensures { result.n ≡ n }
 {
-    assert!(rt; 1 <= n);
-    assert!(rt; n <= 16);
-    assert!(rt; weights.len() == (n * (n - 1) / 2) as usize);
-    assert!(rt; weights.iter().all(|weight| *weight <= 4_000_000_000));
+    expect(rt, 1 <= n);
+    expect(rt, n <= 16);
+    expect(rt, weights.len() == (n * (n - 1) / 2) as usize);
+    expect(rt, weights.iter().all(|weight| *weight <= 4_000_000_000));
     Triangle { n, weights }
 }
 
@@ -52,7 +64,7 @@ pub fn journal_of<S: UndoStore>(
 /// Checks that the canonical form of the tour is this list.
 pub fn expect_printed(rt: &impl Abort, alloc: Global, tour: &ArrayTour, want: &[u32]) {
     let printed = tour.canonical(alloc).expect(rt, "memory for a list");
-    assert!(rt; printed.as_slice() == want);
+    expect_list(rt, &printed, want);
 }
 
 /// Checks that these are two different cities of a tour of n cities.
@@ -61,11 +73,11 @@ pub fn expect_two_cities(rt: &impl Abort, n: u32, a: u32, c: u32)
     ensures second { (1 ≤ c) × (c ≤ n) }
     ensures apart { a ≢ c }
 {
-    assert!(rt; 1 <= a);
-    assert!(rt; a <= n);
-    assert!(rt; 1 <= c);
-    assert!(rt; c <= n);
-    assert!(rt; a != c);
+    expect(rt, 1 <= a);
+    expect(rt, a <= n);
+    expect(rt, 1 <= c);
+    expect(rt, c <= n);
+    expect(rt, a != c);
 }
 
 /// Checks that near lists of n cities can have this length.
@@ -73,9 +85,9 @@ pub fn expect_width(rt: &impl Abort, n: u32, k: u32)
     ensures limits { (1 ≤ k) × (k ≤ 100) }
     ensures others { k < n }
 {
-    assert!(rt; 1 <= k);
-    assert!(rt; k <= 100);
-    assert!(rt; k < n);
+    expect(rt, 1 <= k);
+    expect(rt, k <= 100);
+    expect(rt, k < n);
 }
 
 /// The near lists of all cities, with k cities each, by a scan.
@@ -88,17 +100,38 @@ pub fn near_of<M: Metric>(rt: &impl Abort, alloc: Global, metric: &M, k: u32) ->
     near_scan(alloc, metric, k).expect(rt, "memory for near lists")
 }
 
+/// This many cities, none of them awake.
+pub fn none_awake(rt: &impl Abort, alloc: Global, n: u32) -> Waking
+    ensures { result.size ≡ n }
+{
+    Waking::new(alloc, n).expect(rt, "memory for the cities awake")
+}
+
 /// This many cities, all of them awake.
 pub fn all_awake(rt: &impl Abort, alloc: Global, n: u32) -> Waking
     ensures { result.size ≡ n }
 {
-    let mut waking = Waking::new(alloc, n).expect(rt, "memory for the cities awake");
+    let mut waking = none_awake(rt, alloc, n);
     waking.wake_all();
+    waking
+}
+
+/// This many cities, of which only city 2 is awake.
+pub fn one_awake(rt: &impl Abort, alloc: Global, n: u32) -> Waking
+    ensures { result.size ≡ n }
+{
+    let mut waking = none_awake(rt, alloc, n);
+    expect(rt, 2 <= n);
+    waking.wake(2);
     waking
 }
 
 /// Checks the lengths before and after a descent, and its moves, looks, tests and swaps.
 pub fn expect_report(rt: &impl Abort, report: &Report, lengths: [i64; 2], counts: [u64; 4]) {
-    assert!(rt; [report.before, report.after] == lengths);
-    assert!(rt; [report.moves, report.looks, report.tests, report.swaps] == counts);
+    expect(rt, report.before == lengths[0]);
+    expect(rt, report.after == lengths[1]);
+    expect(rt, report.moves == counts[0]);
+    expect(rt, report.looks == counts[1]);
+    expect(rt, report.tests == counts[2]);
+    expect(rt, report.swaps == counts[3]);
 }

@@ -1,5 +1,6 @@
 //! Points in the plane.
 
+use crate::given::expect;
 use rand::RngExt;
 use rand_pcg::Pcg32;
 use std::alloc::Global;
@@ -22,8 +23,9 @@ pub const SQUARE: [(u16, u16); 4] = [(0, 0), (10, 10), (10, 0), (0, 10)];
 
 /// Sets a point of a list, and checks that its coordinates are within the limit.
 fn put(rt: &impl Abort, points: &mut Points, index: usize, place: Point) {
-    assert!(rt; place.x.unsigned_abs() <= FAR as u64 && place.y.unsigned_abs() <= FAR as u64);
-    assert!(rt; index < points.len());
+    expect(rt, place.x.unsigned_abs() <= FAR as u64);
+    expect(rt, place.y.unsigned_abs() <= FAR as u64);
+    expect(rt, index < points.len());
     points.set(index, place).expect(rt, "memory for places");
 }
 
@@ -65,7 +67,8 @@ pub fn random_places(
     (wide, tall): (u16, u16),
     unit: u32,
 ) -> Points {
-    assert!(rt; 1 <= wide && 1 <= tall);
+    expect(rt, 1 <= wide);
+    expect(rt, 1 <= tall);
     let mut points = at_origin(rt, alloc, 300);
     let mut state: u64 = 20250101;
     for i in 0..300 {
@@ -99,6 +102,6 @@ pub fn unit_of(points: &Points) -> Option<Unit> {
 
 /// The distances of a type among at most 300 points.
 pub fn planes_of<'a>(rt: &impl Abort, kind: PlaneKind, points: &'a Points) -> Planes<'a> {
-    assert!(rt; points.len() <= 300);
+    expect(rt, points.len() <= 300);
     Planes::new(kind, points)
 }

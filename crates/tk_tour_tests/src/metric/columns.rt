@@ -3,7 +3,9 @@ ghost use Rattle.std.specs.Prelude.{◌≤◌};
 ghost use Rattle.tk_problem.specs.declared.limits.TheConstants.{CITY_LIMIT};
 
 use crate::given::near_of;
-use crate::metric::lists::{expect, near_by_sweep};
+use crate::metric::lists::{expect_lists, near_by_sweep};
+use std::alloc::Global;
+use std::process::Abort;
 use tk_metric::{Metric, Planar};
 use tk_text::Point;
 
@@ -63,12 +65,18 @@ impl Planar for Columns {
     }
 }
 
+/// The near lists of twelve cities, of two cities each, one after another.
+static LISTS: [u32; 24] = [
+    11, 2, 12, 1, 2, 4, 3, 5, 4, 6, 5, 7, 6, 8, 7, 9, 8, 7, 1, 11, 1, 2, 2, 1,
+];
+
+/// Checks that the near lists by a scan and by a sweep are these.
+fn expect_both<P: Planar>(rt: &impl Abort, alloc: Global, metric: &P, want: &[u32]) {
+    expect_lists(rt, &near_of(rt, alloc, metric, 2), want);
+    expect_lists(rt, &near_by_sweep(rt, alloc, metric, 2), want);
+}
+
 #[test]
 fn sweeps_a_metric_in_which_y_tells_nothing(rt: HostRuntime) {
-    let columns = Columns { cities: 12 };
-    let want = [
-        11, 2, 12, 1, 2, 4, 3, 5, 4, 6, 5, 7, 6, 8, 7, 9, 8, 7, 1, 11, 1, 2, 2, 1,
-    ];
-    expect(&rt, &near_of(&rt, rt.alloc(), &columns, 2), &want);
-    expect(&rt, &near_by_sweep(&rt, rt.alloc(), &columns, 2), &want);
+    expect_both(&rt, rt.alloc(), &Columns { cities: 12 }, &LISTS);
 }

@@ -1,5 +1,6 @@
 //! Distances of coordinates with up to three decimals, which are stored as whole numbers of a unit. Each distance is
 //! also computed from coordinates that are stored in units of 10^-9.
+use crate::given::expect;
 use crate::places::{ORIGIN, planes_of, points_of, unit_of};
 use std::alloc::Global;
 use std::process::Abort;
@@ -173,9 +174,12 @@ fn place_of((x, y): (i64, i64)) -> Point {
 
 /// Checks the distance of the first two of three points by a metric, both by `dist` and by `is_nearer`.
 fn expect_distance<M: Metric>(rt: &impl Abort, metric: &M, want: i64) {
-    assert!(rt; metric.size() == 3);
-    assert!(rt; metric.dist(1, 2) == want && metric.dist(2, 1) == want && metric.dist(2, 2) == 0);
-    assert!(rt; metric.is_nearer(1, 2, want.wrapping_add(1)) && !metric.is_nearer(1, 2, want));
+    expect(rt, metric.size() == 3);
+    expect(rt, metric.dist(1, 2) == want);
+    expect(rt, metric.dist(2, 1) == want);
+    expect(rt, metric.dist(2, 2) == 0);
+    expect(rt, metric.is_nearer(1, 2, want.wrapping_add(1)));
+    expect(rt, !metric.is_nearer(1, 2, want));
 }
 
 /// Like `expect_distance`, for a type of plane distances. Points in a unit have a metric of their own for EUC_2D.
@@ -185,28 +189,38 @@ fn expect_kind(rt: &impl Abort, points: &Points, unit: Option<Unit>, kind: Plane
     let own = kind == PlaneKind::Euc2d && unit.is_some();
     match planes.euclid() {
         Some(euclid) => {
-            assert!(rt; own);
+            expect(rt, own);
             expect_distance(rt, &euclid, want);
         }
-        None => assert!(rt; !own),
+        None => expect(rt, !own),
     }
 }
 
 /// Checks the unit of three points, and the distance of the first two by each type.
 fn expect_distances(rt: &impl Abort, points: &Points, unit: Option<Unit>, distances: &[i64; 5]) {
-    assert!(rt; unit_of(points) == unit);
+    expect(rt, unit_of(points) == unit);
     for k in 0..5 {
         expect_kind(rt, points, unit, KINDS[k], distances[k]);
     }
 }
 
+/// Checks the distances of the first two of three points, and the unit in which these are stored.
+fn expect_stored(
+    rt: &impl Abort,
+    alloc: Global,
+    points: [Point; 3],
+    unit: Option<Unit>,
+    distances: &[i64; 5],
+) {
+    let points = points_of(rt, alloc, &points);
+    expect_distances(rt, &points, unit, distances);
+}
+
 /// Checks the distances of a row, in its unit and in units of 10^-9.
 fn expect_row(rt: &impl Abort, alloc: Global, (unit, from, to, distances): &Row) {
     let (from, to) = (place_of(*from), place_of(*to));
-    let points = points_of(rt, alloc, &[from, to, ORIGIN]);
-    expect_distances(rt, &points, *unit, distances);
-    let fine = points_of(rt, alloc, &[from, to, SPECK]);
-    expect_distances(rt, &fine, None, distances);
+    expect_stored(rt, alloc, [from, to, ORIGIN], *unit, distances);
+    expect_stored(rt, alloc, [from, to, SPECK], None, distances);
 }
 
 #[test]
@@ -216,12 +230,18 @@ fn distances_in_each_unit(rt: HostRuntime) {
     }
 }
 
+const HALF: Point = Point {
+    x: 0,
+    y: 499_999_999,
+};
+
 #[test]
 fn just_less_than_a_half(rt: HostRuntime) {
-    let half = Point {
-        x: 0,
-        y: 499_999_999,
-    };
-    let points = points_of(&rt, rt.alloc(), &[ORIGIN, half, ORIGIN]);
-    expect_distances(&rt, &points, None, &[0, 1, 0, 0, 1]);
+    expect_stored(
+        &rt,
+        rt.alloc(),
+        [ORIGIN, HALF, ORIGIN],
+        None,
+        &[0, 1, 0, 0, 1],
+    );
 }

@@ -4,7 +4,7 @@ ghost use Rattle.tk_tour.specs.JournalTours.{cities_of};
 ghost use Rattle.tk_tour.specs.Tour.{tour_length};
 
 use crate::descents::descend_awake;
-use crate::given::{first_cities, journal_of, near_of, tour_of};
+use crate::given::{expect, first_cities, journal_of, near_of, tour_of};
 use crate::places::{drawn_places, planes_of};
 use crate::tours::segments::{expect_alike, segments_of};
 use rand_core::SeedableRng;
@@ -58,14 +58,16 @@ fn make_trial<S: UndoStore, M: Metric>(
     rng: &mut Pcg32,
 ) -> i64 {
     let n = tour.size();
-    assert!(rt; 8 <= n && metric.size() == n && near.size() == n);
+    expect(rt, 8 <= n);
+    expect(rt, metric.size() == n);
+    expect(rt, near.size() == n);
     kick(tour, Cuts::draw(rng, n));
     let report = descend_now(rt, alloc, tour, metric, near);
     if report.after < shortest {
         tour.settle();
         return report.after;
     }
-    assert!(rt; tour.rewind());
+    expect(rt, tour.rewind());
     shortest
 }
 
@@ -85,12 +87,27 @@ fn expect_same_trials<M: Metric>(
     for _ in 0..trials {
         shortest = make_trial(rt, alloc, array, metric, near, shortest, &mut rng);
         other = make_trial(rt, alloc, segments, metric, near, other, &mut other_rng);
-        assert!(rt; shortest == other);
+        expect(rt, shortest == other);
         expect_alike(rt, array.tour(), segments.tour());
     }
 }
 
-/// Checks that trials of both tours from one start agree, with as few segments as the limit for swaps allows.
+/// A tour in an array, with a journal.
+fn in_array(rt: &impl Abort, alloc: Global, cities: &[u32]) -> JournalTour<ArrayTour> {
+    journal_of(rt, alloc, tour_of(rt, alloc, cities), 100_000)
+}
+
+/// A tour in as few segments as the limit for swaps allows, with a journal.
+fn in_segments(
+    rt: &impl Abort,
+    alloc: Global,
+    cities: &[u32],
+    short: u32,
+) -> JournalTour<SegmentTour> {
+    journal_of(rt, alloc, segments_of(rt, alloc, cities, short), 100_000)
+}
+
+/// Checks that trials of both tours from one start agree.
 fn expect_same_from<M: Metric>(
     rt: &impl Abort,
     alloc: Global,
@@ -101,9 +118,8 @@ fn expect_same_from<M: Metric>(
     seed: u64,
 ) {
     let cities = first_cities(rt, alloc, metric.size());
-    let mut array = journal_of(rt, alloc, tour_of(rt, alloc, &cities), 100_000);
-    let segments = segments_of(rt, alloc, &cities, short);
-    let mut segments = journal_of(rt, alloc, segments, 100_000);
+    let mut array = in_array(rt, alloc, &cities);
+    let mut segments = in_segments(rt, alloc, &cities, short);
     expect_same_trials(
         rt,
         alloc,
@@ -116,13 +132,25 @@ fn expect_same_from<M: Metric>(
     );
 }
 
+/// Like `expect_same_from`, with five candidates for each city.
+fn expect_same_over<M: Metric>(
+    rt: &impl Abort,
+    alloc: Global,
+    metric: &M,
+    short: u32,
+    trials: u32,
+    seed: u64,
+) {
+    let near = near_of(rt, alloc, metric, 5);
+    expect_same_from(rt, alloc, metric, &near, short, trials, seed);
+}
+
 /// Checks that trials of both tours agree for n random points.
 fn expect_same_search(rt: &impl Abort, alloc: Global, n: u32, short: u32, trials: u32) {
     let seed = u64::from(n) * 3000 + u64::from(short);
     let points = drawn_places(rt, alloc, n, &mut Pcg32::seed_from_u64(seed));
     let metric = planes_of(rt, PlaneKind::Euc2d, &points);
-    let near = near_of(rt, alloc, &metric, 5);
-    expect_same_from(rt, alloc, &metric, &near, short, trials, seed);
+    expect_same_over(rt, alloc, &metric, short, trials, seed);
 }
 
 #[test]

@@ -1,6 +1,6 @@
 //! Examples of cuts and kicks.
 
-use crate::given::{EIGHT, expect_printed, tour_of};
+use crate::given::{EIGHT, expect, expect_list, expect_printed, tour_of};
 use rand_core::{Rng, SeedableRng};
 use rand_pcg::Pcg32;
 use std::alloc::Global;
@@ -17,17 +17,20 @@ fn draws_cuts_by_the_words(rt: HostRuntime) {
     ];
     for (seed, want, next) in rows {
         let mut rng = Pcg32::seed_from_u64(seed);
-        assert!(rt; Cuts::draw(&mut rng, 12) == want);
-        assert!(rt; rng.next_u32() == next);
+        expect(&rt, Cuts::draw(&mut rng, 12) == want);
+        expect(&rt, rng.next_u32() == next);
     }
 }
 
 /// Checks that these cuts of eight cities in their order have these ends, and that a kick leads to this tour.
 fn expect_kick(rt: &impl Abort, alloc: Global, cuts: Cuts, ends: [u32; 8], want: &[u32]) {
     let mut tour = tour_of(rt, alloc, &EIGHT);
-    assert!(rt; tour.size() == 8);
-    assert!(rt; 1 <= cuts.p && cuts.p < cuts.q && cuts.q < cuts.r && cuts.r < 8);
-    assert!(rt; cuts.ends(&tour) == ends);
+    expect(rt, tour.size() == 8);
+    expect(rt, 1 <= cuts.p);
+    expect(rt, cuts.p < cuts.q);
+    expect(rt, cuts.q < cuts.r);
+    expect(rt, cuts.r < 8);
+    expect_list(rt, &cuts.ends(&tour), &ends);
     kick(&mut tour, cuts);
     expect_printed(rt, alloc, &tour, want);
 }

@@ -1,7 +1,7 @@
 //! Examples of searches. The numbers are those of another program, which was written from the rules of the search.
 ghost use Rattle.std.specs.Prelude.{◌≡◌};
 
-use crate::given::{expect_report, near_of, tour_of, triangle};
+use crate::given::{expect, expect_list, expect_report, near_of, tour_of, triangle};
 use crate::places::{WHOLE, places, planes_of};
 use rand_core::SeedableRng;
 use rand_pcg::Pcg32;
@@ -24,8 +24,9 @@ fn begin<'a, M: Metric>(
     requires { near.now.size ≡ M.size_of metric.now }
 {
     let start = tour_of(rt, alloc, start);
-    assert!(rt; start.size() == metric.size());
-    assert!(rt; 1 <= rules.or_segment && rules.or_segment <= 3);
+    expect(rt, start.size() == metric.size());
+    expect(rt, 1 <= rules.or_segment);
+    expect(rt, rules.or_segment <= 3);
     Search::new(alloc, metric, near, start, rules).expect(rt, "memory for a search")
 }
 
@@ -33,7 +34,7 @@ fn begin<'a, M: Metric>(
 fn expect_trial(rt: &impl Abort, report: &TrialReport, lengths: [i64; 2], counts: [u64; 5]) {
     let [moves, looks, tests, swaps, passes] = counts;
     expect_report(rt, &report.descent, lengths, [moves, looks, tests, swaps]);
-    assert!(rt; report.passes == passes);
+    expect(rt, report.passes == passes);
 }
 
 // A search on fewer than 8 cities, which makes a single trial. The counters are those for segments of at most 1, 2 and
@@ -97,41 +98,36 @@ const FEW: &[Few<'static>] = &[
 ];
 
 // Checks that a search on few cities makes one trial, and then none.
-fn expect_trials<M: Metric>(rt: &impl Abort, search: &mut Search<M>, few: &Few, counts: [u64; 5]) {
+fn expect_trials<M: Metric>(rt: &impl Abort, search: &mut Search<M>, few: &Few, k: usize) {
+    expect(rt, k < 6);
     let mut rng = Pcg32::seed_from_u64(1);
     let [_, after] = few.lengths;
-    expect_trial(rt, &search.trial(&mut rng), few.lengths, counts);
+    expect_trial(rt, &search.trial(&mut rng), few.lengths, few.counts[k]);
     expect_trial(rt, &search.trial(&mut rng), [after, after], [0; 5]);
-    assert!(rt; search.totals().trials == 1);
-    assert!(rt; search.best() == few.best);
+    expect(rt, search.totals().trials == 1);
+    expect_list(rt, search.best(), few.best);
 }
 
-// Like `expect_trials`, for a search by these rules.
+// Checks a search on few cities by the rules with this number.
 fn expect_few_by<M: Metric>(
     rt: &impl Abort,
     alloc: Global,
     metric: &M,
     near: &Near,
     few: &Few,
-    rules: SearchRules,
-    counts: [u64; 5],
+    k: usize,
 )
     requires { near.now.size ≡ M.size_of metric.now }
 {
-    let mut search = begin(rt, alloc, metric, near, few.start, rules);
-    expect_trials(rt, &mut search, few, counts);
+    expect_search(rt, alloc, metric, near, &Course::Few(few, k));
 }
 
 fn expect_few(rt: &impl Abort, alloc: Global, few: &Few) {
-    assert!(rt; few.start.len() <= 16);
+    expect(rt, few.start.len() <= 16);
     let metric = triangle(rt, few.start.len() as u32, few.weights);
     let near = near_of(rt, alloc, &metric, few.width);
     for k in 0..6 {
-        let rules = SearchRules {
-            sweep: 3 <= k,
-            or_segment: k as u32 % 3 + 1,
-        };
-        expect_few_by(rt, alloc, &metric, &near, few, rules, few.counts[k]);
+        expect_few_by(rt, alloc, &metric, &near, few, k);
     }
 }
 
@@ -184,8 +180,8 @@ fn totals(start: i64, counts: [u128; 9]) -> Totals {
 // After a kick, few cities are awake: there are at most 8 looks, and 6 more for each move, with 4 * 3 * 5 tests each.
 fn expect_few_looks(rt: &impl Abort, report: &TrialReport) {
     let moves = report.descent.moves as u128;
-    assert!(rt; report.descent.looks as u128 <= 8 + 6 * moves);
-    assert!(rt; report.descent.tests as u128 <= 480 + 360 * moves);
+    expect(rt, report.descent.looks as u128 <= 8 + 6 * moves);
+    expect(rt, report.descent.tests as u128 <= 480 + 360 * moves);
 }
 
 // Makes trials up to the one with this number.
@@ -204,33 +200,83 @@ fn run<M: Metric>(
     }
 }
 
+// Makes trials, and checks the totals after them.
+fn expect_after<M: Metric>(
+    rt: &impl Abort,
+    search: &mut Search<M>,
+    rng: &mut Pcg32,
+    want: &Totals,
+    sweep: bool,
+) {
+    run(rt, search, rng, want.trials, sweep);
+    expect(rt, search.totals() == *want);
+}
+
 // Checks that the trials of a search have these totals and lead to this tour.
 fn expect_all_totals<M: Metric>(rt: &impl Abort, search: &mut Search<M>, many: &Many) {
     let mut rng = Pcg32::seed_from_u64(many.seed);
     for counts in many.totals {
         let want = totals(many.length, *counts);
-        run(rt, search, &mut rng, want.trials, many.sweep);
-        assert!(rt; search.totals() == want);
+        expect_after(rt, search, &mut rng, &want, many.sweep);
     }
-    assert!(rt; search.best() == many.best);
+    expect_list(rt, search.best(), many.best);
 }
 
-fn expect_totals<M: Metric>(rt: &impl Abort, alloc: Global, metric: &M, near: &Near, many: &Many)
+// A search on few cities, with the number of its rules and counters, or one on many.
+#[derive(Drop)]
+enum Course<'a> {
+    Few(&'a Few<'a>, usize),
+    Many(&'a Many<'a>),
+}
+
+// The list that a search starts from, and its rules.
+fn start_of<'a>(course: &Course<'a>) -> (&'a [u32], SearchRules) {
+    match course {
+        Course::Few(few, k) => (
+            few.start,
+            SearchRules {
+                sweep: 3 <= *k,
+                or_segment: (*k % 3) as u32 + 1,
+            },
+        ),
+        Course::Many(many) => (
+            many.start,
+            SearchRules {
+                sweep: many.sweep,
+                or_segment: 3,
+            },
+        ),
+    }
+}
+
+// Checks the trials of a search.
+fn expect_course<M: Metric>(rt: &impl Abort, search: &mut Search<M>, course: &Course<'_>) {
+    match course {
+        Course::Few(few, k) => expect_trials(rt, search, few, *k),
+        Course::Many(many) => expect_all_totals(rt, search, many),
+    }
+}
+
+// Checks the course of a search.
+fn expect_search<M: Metric>(
+    rt: &impl Abort,
+    alloc: Global,
+    metric: &M,
+    near: &Near,
+    course: &Course<'_>,
+)
     requires { near.now.size ≡ M.size_of metric.now }
 {
-    let rules = SearchRules {
-        sweep: many.sweep,
-        or_segment: 3,
-    };
-    let mut search = begin(rt, alloc, metric, near, many.start, rules);
-    expect_all_totals(rt, &mut search, many);
+    let (start, rules) = start_of(course);
+    let mut search = begin(rt, alloc, metric, near, start, rules);
+    expect_course(rt, &mut search, course);
 }
 
 fn expect_many(rt: &impl Abort, alloc: Global, many: &Many) {
     let points = places(rt, alloc, many.corners, WHOLE);
     let metric = planes_of(rt, PlaneKind::Man2d, &points);
     let near = near_of(rt, alloc, &metric, many.width);
-    expect_totals(rt, alloc, &metric, &near, many);
+    expect_search(rt, alloc, &metric, &near, &Course::Many(many));
 }
 
 // Sixteen points in a row.

@@ -1,6 +1,6 @@
 //! Worked examples of the savings algorithm.
 
-use crate::given::{near_of, triangle};
+use crate::given::{expect, expect_list, near_of, triangle};
 use std::alloc::Global;
 use std::process::Abort;
 use tk_build::{savings_lists, savings_tour};
@@ -16,16 +16,19 @@ fn lists_of<M: Metric>(
     capacity: u64,
 ) -> Vec<Vec<u32>> {
     let n = metric.size();
-    assert!(rt; 2 <= n && 1 <= hub && hub <= n && loads.len() == n as usize);
+    expect(rt, 2 <= n);
+    expect(rt, 1 <= hub);
+    expect(rt, hub <= n);
+    expect(rt, loads.len() == n as usize);
     let near = near_of(rt, alloc, metric, n - 1);
     savings_lists(alloc, metric, hub, loads, capacity, &near).expect(rt, "memory for lists")
 }
 
 /// Checks that the lists are these.
 fn expect_each(rt: &impl Abort, lists: &[Vec<u32>], want: &[&[u32]]) {
-    assert!(rt; lists.len() == want.len());
+    expect(rt, lists.len() == want.len());
     for k in 0..want.len() {
-        assert!(rt; lists[k].as_slice() == want[k]);
+        expect_list(rt, &lists[k], want[k]);
     }
 }
 
@@ -47,10 +50,10 @@ fn expect_lists<M: Metric>(
 /// Checks that the tour of the savings algorithm is this one.
 fn expect_tour<M: Metric>(rt: &impl Abort, alloc: Global, metric: &M, want: &[u32]) {
     let n = metric.size();
-    assert!(rt; 2 <= n);
+    expect(rt, 2 <= n);
     let near = near_of(rt, alloc, metric, n - 1);
     let tour = savings_tour(alloc, metric, &near).expect(rt, "memory for a tour");
-    assert!(rt; tour.as_slice() == want);
+    expect_list(rt, &tour, want);
 }
 
 /// (0,0) (10,10) (10,0) (0,10), EUC_2D
@@ -107,7 +110,7 @@ const ROWS: &[Row<'static>] = &[
 #[test]
 fn lists_around_a_hub(rt: HostRuntime) {
     for (weights, hub, loads, rows) in ROWS {
-        assert!(rt; loads.len() <= 16);
+        expect(&rt, loads.len() <= 16);
         let metric = triangle(&rt, loads.len() as u32, weights);
         expect_lists(&rt, rt.alloc(), &metric, *hub, loads, rows);
     }

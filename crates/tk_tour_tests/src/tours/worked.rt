@@ -1,5 +1,7 @@
 //! Worked examples of tours, and each call once at a concrete type.
-use crate::given::{EIGHT, expect_printed, expect_two_cities, journal_of, tour_of};
+use crate::given::{
+    EIGHT, expect, expect_list, expect_printed, expect_two_cities, journal_of, tour_of,
+};
 use std::alloc::Global;
 use std::process::Abort;
 use tk_metric::Triangle;
@@ -14,11 +16,17 @@ pub fn flip_after<S: TourStore>(rt: &impl Abort, tour: &mut S, a: u32, c: u32) -
 
 /// Checks that this flip was made with one swap and led to this order, and that undoing it leads back.
 fn expect_undone(rt: &impl Abort, tour: &mut ArrayTour, flip: Flip, order: &[u32], cities: &[u32]) {
-    assert!(rt; tour.order() == order && tour.swaps() == 1 && tour.flips() == 1);
+    expect_list(rt, tour.order(), order);
+    expect(rt, tour.swaps() == 1);
+    expect(rt, tour.flips() == 1);
     let n = tour.size();
-    assert!(rt; 1 <= flip.first && flip.first <= n && flip.count <= n);
+    expect(rt, 1 <= flip.first);
+    expect(rt, flip.first <= n);
+    expect(rt, flip.count <= n);
     tour.undo(&flip);
-    assert!(rt; tour.order() == cities && tour.swaps() == 1 && tour.undo_swaps() == 1);
+    expect_list(rt, tour.order(), cities);
+    expect(rt, tour.swaps() == 1);
+    expect(rt, tour.undo_swaps() == 1);
 }
 
 /// Checks that this flip is made after a and c, takes one swap and leads to this order, and that undoing it leads back.
@@ -31,7 +39,7 @@ fn expect_flip(
     order: &[u32],
 ) {
     let mut tour = tour_of(rt, alloc, cities);
-    assert!(rt; flip_after(rt, &mut tour, a, c) == want);
+    expect(rt, flip_after(rt, &mut tour, a, c) == want);
     expect_undone(rt, &mut tour, want, order, cities);
 }
 
@@ -50,57 +58,76 @@ fn flips_the_shorter_side(rt: HostRuntime) {
     );
 }
 
+/// Lists of four cities, and their canonical forms.
+static PRINTED: [([u32; 4], [u32; 4]); 3] = [
+    ([3, 1, 4, 2], [1, 3, 2, 4]),
+    ([2, 4, 1, 3], [1, 3, 2, 4]),
+    ([4, 3, 2, 1], [1, 2, 3, 4]),
+];
+
 #[test]
 fn prints_towards_the_smaller_neighbour(rt: HostRuntime) {
-    let rows = [
-        ([3, 1, 4, 2], [1, 3, 2, 4]),
-        ([2, 4, 1, 3], [1, 3, 2, 4]),
-        ([4, 3, 2, 1], [1, 2, 3, 4]),
-    ];
-    for (list, want) in rows {
-        expect_printed(&rt, rt.alloc(), &tour_of(&rt, rt.alloc(), &list), &want);
+    for (list, want) in &PRINTED {
+        expect_printed(&rt, rt.alloc(), &tour_of(&rt, rt.alloc(), list), want);
     }
+}
+
+/// Lists that are not tours, with their faults.
+static REFUSED: [(&[u32], TourFault); 6] = [
+    (&[], TourFault::WrongCount),
+    (&[1], TourFault::WrongCount),
+    (&[3], TourFault::WrongCount),
+    (&[1, 3], TourFault::OutOfRange(2)),
+    (&[0, 0], TourFault::OutOfRange(1)),
+    (&[2, 1, 2], TourFault::RepeatedCity(3)),
+];
+
+/// The fault of a list, if it has one.
+fn fault_of(alloc: Global, list: &[u32]) -> Option<TourFault> {
+    ArrayTour::from_list(alloc, list).err()
 }
 
 #[test]
 fn refuses_lists(rt: HostRuntime) {
-    let rows: [(&[u32], TourFault); 6] = [
-        (&[], TourFault::WrongCount),
-        (&[1], TourFault::WrongCount),
-        (&[3], TourFault::WrongCount),
-        (&[1, 3], TourFault::OutOfRange(2)),
-        (&[0, 0], TourFault::OutOfRange(1)),
-        (&[2, 1, 2], TourFault::RepeatedCity(3)),
-    ];
-    for (list, want) in rows {
-        assert!(rt; ArrayTour::from_list(rt.alloc(), list).err() == Some(want));
+    for (list, want) in &REFUSED {
+        expect(&rt, fault_of(rt.alloc(), list) == Some(*want));
     }
+}
+
+/// Faults, and their texts.
+static SHOWN: [(TourFault, &str); 4] = [
+    (
+        TourFault::WrongCount,
+        "wrong count: a tour has 2 to 100,000 cities",
+    ),
+    (TourFault::OutOfRange(4), "out of range at place 4"),
+    (TourFault::RepeatedCity(3), "repeated city at place 3"),
+    (TourFault::NoMemory, "out of memory"),
+];
+
+/// Checks the text of a fault.
+fn expect_shown(rt: &impl Abort, alloc: Global, fault: TourFault, want: &str) {
+    let shown = format!(in alloc; "{fault}").expect(rt, "memory for a line");
+    expect(rt, shown.as_str() == want);
 }
 
 #[test]
 fn shows_faults(rt: HostRuntime) {
-    let rows = [
-        (
-            TourFault::WrongCount,
-            "wrong count: a tour has 2 to 100,000 cities",
-        ),
-        (TourFault::OutOfRange(4), "out of range at place 4"),
-        (TourFault::RepeatedCity(3), "repeated city at place 3"),
-        (TourFault::NoMemory, "out of memory"),
-    ];
-    for (fault, want) in rows {
-        let shown = format!(in rt.alloc(); "{fault}").expect(&rt, "memory for a line");
-        assert!(rt; shown.as_str() == want);
+    for (fault, want) in &SHOWN {
+        expect_shown(&rt, rt.alloc(), *fault, want);
     }
 }
 
 /// Checks that a tour of four cities takes the order of another.
 fn expect_copied(rt: &impl Abort, tour: &mut ArrayTour, other: &ArrayTour) {
-    assert!(rt; tour.size() == 4);
-    assert!(rt; other.size() == 4);
+    expect(rt, tour.size() == 4);
+    expect(rt, other.size() == 4);
     tour.copy_from(other);
-    assert!(rt; tour.order() == other.order() && tour.copied() == 4);
-    assert!(rt; tour.at(2) == 2 && tour.next(4) == 2 && tour.prev(4) == 3);
+    expect_list(rt, tour.order(), other.order());
+    expect(rt, tour.copied() == 4);
+    expect(rt, tour.at(2) == 2);
+    expect(rt, tour.next(4) == 2);
+    expect(rt, tour.prev(4) == 3);
 }
 
 #[test]
@@ -108,67 +135,84 @@ fn copies(rt: HostRuntime) {
     let mut tour = tour_of(&rt, rt.alloc(), &[1, 2, 3, 4]);
     let other = tour_of(&rt, rt.alloc(), &[4, 2, 1, 3]);
     expect_copied(&rt, &mut tour, &other);
-    assert!(rt; tour.order() == [4, 2, 1, 3].as_slice());
-}
-
-/// Whether the cities are in this order.
-fn stands(tour: &JournalTour<ArrayTour>, want: &[u32]) -> bool {
-    tour.tour().order() == want
+    expect_list(&rt, tour.order(), &[4, 2, 1, 3]);
 }
 
 /// Makes two flips of eight cities in the order of their numbers: from after 1 to 7, and from after 2 to 4.
 fn flip_twice(rt: &impl Abort, tour: &mut JournalTour<ArrayTour>) {
     let _ = flip_after(rt, tour, 1, 7);
     let _ = flip_after(rt, tour, 2, 4);
-    assert!(rt; stands(tour, &[8, 2, 4, 3, 5, 6, 7, 1]) && tour.flips() == 2);
+    expect_list(rt, tour.tour().order(), &[8, 2, 4, 3, 5, 6, 7, 1]);
+    expect(rt, tour.flips() == 2);
 }
 
 /// Checks that a rewind undoes both flips.
 fn expect_rewound(rt: &impl Abort, tour: &mut JournalTour<ArrayTour>) {
     flip_twice(rt, tour);
-    assert!(rt; tour.rewind() && tour.flips() == 0 && stands(tour, &EIGHT));
-    assert!(rt; tour.tour().undo_swaps() == 2 && tour.swaps() == 2);
+    expect(rt, tour.rewind());
+    expect(rt, tour.flips() == 0);
+    expect_list(rt, tour.tour().order(), &EIGHT);
+    expect(rt, tour.tour().undo_swaps() == 2);
+    expect(rt, tour.swaps() == 2);
+}
+
+/// Checks that a rewind undoes flips, but not those before the tour was settled.
+fn expect_settled(rt: &impl Abort, tour: &mut JournalTour<ArrayTour>) {
+    let _ = flip_after(rt, tour, 1, 7);
+    tour.settle();
+    let _ = flip_after(rt, tour, 2, 4);
+    expect(rt, tour.rewind());
+    expect_list(rt, tour.tour().order(), &[8, 2, 3, 4, 5, 6, 7, 1]);
 }
 
 #[test]
 fn rewinds(rt: HostRuntime) {
     let mut tour = journal_of(&rt, rt.alloc(), tour_of(&rt, rt.alloc(), &EIGHT), 2);
     expect_rewound(&rt, &mut tour);
-    let _ = flip_after(&rt, &mut tour, 1, 7);
-    tour.settle();
-    let _ = flip_after(&rt, &mut tour, 2, 4);
-    assert!(rt; tour.rewind() && stands(&tour, &[8, 2, 3, 4, 5, 6, 7, 1]));
+    expect_settled(&rt, &mut tour);
 }
 
 /// Checks that a tour with a lost flip takes the order in which it began.
 fn expect_restored(rt: &impl Abort, tour: &mut JournalTour<ArrayTour>, start: &ArrayTour) {
-    assert!(rt; tour.size() == 8);
-    assert!(rt; start.size() == 8);
+    expect(rt, tour.size() == 8);
+    expect(rt, start.size() == 8);
     tour.restore(start);
-    assert!(rt; stands(tour, &EIGHT) && tour.tour().copied() == 8 && !tour.lost());
-    assert!(rt; tour.at(3) == 3 && tour.next(8) == 1 && tour.prev(8) == 7);
+    expect_list(rt, tour.tour().order(), &EIGHT);
+    expect(rt, tour.tour().copied() == 8);
+    expect(rt, !tour.lost());
+    expect(rt, tour.at(3) == 3);
+    expect(rt, tour.next(8) == 1);
+    expect(rt, tour.prev(8) == 7);
+}
+
+/// Loses a flip, and then restores the order in which the tour began.
+fn lose_and_restore(rt: &impl Abort, tour: &mut JournalTour<ArrayTour>, start: &ArrayTour) {
+    flip_twice(rt, tour);
+    expect(rt, tour.lost());
+    expect(rt, !tour.rewind());
+    expect_list(rt, tour.tour().order(), &[8, 2, 4, 3, 5, 6, 7, 1]);
+    expect_restored(rt, tour, start);
 }
 
 #[test]
 fn restores_where_flips_were_lost(rt: HostRuntime) {
-    let start = tour_of(&rt, rt.alloc(), &EIGHT);
     let mut tour = journal_of(&rt, rt.alloc(), tour_of(&rt, rt.alloc(), &EIGHT), 1);
-    flip_twice(&rt, &mut tour);
-    assert!(rt; tour.lost() && !tour.rewind() && stands(&tour, &[8, 2, 4, 3, 5, 6, 7, 1]));
-    expect_restored(&rt, &mut tour, &start);
+    lose_and_restore(&rt, &mut tour, &tour_of(&rt, rt.alloc(), &EIGHT));
 }
+
+/// Lists, and their verdicts as tours of four cities.
+static CHECKED: [(&[u32], Verdict); 5] = [
+    (&[3, 1, 4, 2], Verdict::Tour),
+    (&[1, 2, 2, 4], Verdict::RepeatedCity(3)),
+    (&[1, 2, 3, 5], Verdict::OutOfRange(4)),
+    (&[1, 2, 3, 4, 1], Verdict::WrongCount),
+    (&[], Verdict::WrongCount),
+];
 
 #[test]
 fn checks_lists(rt: HostRuntime) {
-    let rows: [(&[u32], Verdict); 5] = [
-        (&[3, 1, 4, 2], Verdict::Tour),
-        (&[1, 2, 2, 4], Verdict::RepeatedCity(3)),
-        (&[1, 2, 3, 5], Verdict::OutOfRange(4)),
-        (&[1, 2, 3, 4, 1], Verdict::WrongCount),
-        (&[], Verdict::WrongCount),
-    ];
-    for (list, want) in rows {
-        assert!(rt; check(rt.alloc(), 4, list) == Ok(want));
+    for (list, want) in &CHECKED {
+        expect(&rt, check(rt.alloc(), 4, list) == Ok(*want));
     }
 }
 
@@ -200,7 +244,8 @@ fn measures(rt: HostRuntime) {
         n: 4,
         weights: &[1, 2, 1, 3, 2, 1],
     };
-    assert!(rt; length(&line, &[1, 3, 2, 4]) == 8);
-    assert!(rt; length(&line, &[1, 4]) == 6);
-    assert!(rt; length(&line, &[3]) == 0 && length(&line, &[]) == 0);
+    expect(&rt, length(&line, &[1, 3, 2, 4]) == 8);
+    expect(&rt, length(&line, &[1, 4]) == 6);
+    expect(&rt, length(&line, &[3]) == 0);
+    expect(&rt, length(&line, &[]) == 0);
 }

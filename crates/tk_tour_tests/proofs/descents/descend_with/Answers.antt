@@ -1,6 +1,6 @@
 use Rattle.std.proofs.Common.{◌∙◌, ℕ, subst}
 use Rattle.tk_descent.specs.Steps.{AreTrueOf}
-use Rattle.tk_tour_tests.proofs.descents.steps_after.Goals as goal
+use Rattle.tk_tour_tests.proofs.descents.descend_with.Goals as goal
 
 pub returns : goal.returns
 returns g c =
