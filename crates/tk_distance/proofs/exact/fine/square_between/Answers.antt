@@ -13,3 +13,21 @@ returns-clause-value c =
     let y : c.squared-2.result ≡ gap c.args.p.y c.args.q.y * gap c.args.p.y c.args.q.y =
     square_of-same _ _ _ c.squared-2.ensures.value (omega (arith, ints)) in
     cc
+
+pub overflow_sub-p : goal.overflow_sub-p
+overflow_sub-p c = omega (arith, ints)
+
+pub overflow_sub-q : goal.overflow_sub-q
+overflow_sub-q c = omega (arith, ints)
+
+pub squared-requires : goal.squared-requires
+squared-requires c = omega (arith, ints)
+
+pub squared-requires-2 : goal.squared-requires-2
+squared-requires-2 c = omega (arith, ints)
+
+pub overflow_add-result : goal.overflow_add-result
+overflow_add-result c = omega arith
+
+pub returns-clause-bound : goal.returns-clause-bound
+returns-clause-bound c = omega arith

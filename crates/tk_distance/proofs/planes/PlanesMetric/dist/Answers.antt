@@ -1,3 +1,5 @@
+use Rattle.std.proofs.lemmas.Grind.{elements}
+use Rattle.std.proofs.Common.{arith}
 use Rattle.tk_problem.specs.PlacesOf.{places_of}
 use Rattle.tk_distance.proofs.PlaneReads.{whole_cities, fine_cities, signed_value, signed_distance}
 use Rattle.tk_distance.proofs.planes.PlanesMetric.dist.Goals as goal
@@ -25,3 +27,9 @@ returns-in-Fine c =
       exact = signed_distance c.args.self.now.kind (places_of c.args.self.now.places) c.args.a c.args.b _ is
           c.fine_between.ensures.limit;
     }
+
+pub fine_between-requires-clause-p_near : goal.fine_between-requires-clause-p_near
+fine_between-requires-clause-p_near c = grind (arith, elements)
+
+pub fine_between-requires-clause-q_near : goal.fine_between-requires-clause-q_near
+fine_between-requires-clause-q_near c = grind (arith, elements)

@@ -1,4 +1,5 @@
-use Rattle.std.proofs.Common.{rules, w64, SFits}
+use Rattle.std.proofs.lemmas.Grind.{elements}
+use Rattle.std.proofs.Common.{rules, w64, SFits, arith}
 use Rattle.tk_problem.specs.PlacesOf.{places_of}
 use Rattle.tk_distance.proofs.PlaneReads.{below_limit, whole_city_distance, fine_city_distance}
 use Rattle.tk_distance.proofs.planes.PlanesMetric.is_nearer.Goals as goal
@@ -19,3 +20,9 @@ returns-in-Fine c =
     below_limit m.kind (places_of m.places) c.args.a c.args.b c.bound_of-bound.result c.args.limit _ m.near fits
     c.bound_of-bound.ensures.value (c.is_fine_nearer.ensures _
     (fine_city_distance m.kind m.places c.in-Fine.places c.args.a c.args.b c.in-Fine.is))
+
+pub is_fine_nearer-requires-clause-p_near : goal.is_fine_nearer-requires-clause-p_near
+is_fine_nearer-requires-clause-p_near c = grind (arith, elements)
+
+pub is_fine_nearer-requires-clause-q_near : goal.is_fine_nearer-requires-clause-q_near
+is_fine_nearer-requires-clause-q_near c = grind (arith, elements)
