@@ -1,7 +1,7 @@
 //! Offers: the moves that a look tries.
 
 /// A move that a look tries, given by the ends of the edges that it replaces.
-#[derive(Clone, Copy, PartialEq, Eq, Debug)]
+#[derive(Clone, Copy, Debug)]
 pub enum Offer {
     /// The 2-opt move that replaces the edges a-b and c-d by a-c and b-d.
     Two {
@@ -23,7 +23,7 @@ pub enum Offer {
 }
 
 /// An offer and its gain.
-#[derive(Clone, Copy, PartialEq, Eq, Debug)]
+#[derive(Clone, Copy)]
 pub struct Found {
     pub offer: Offer,
     pub gain: i64,

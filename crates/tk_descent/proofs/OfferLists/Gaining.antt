@@ -1,6 +1,6 @@
 -- An Or-opt offer with positive gain, by its margin.
 use Rattle.std.proofs.Common.{◌≡◌, ℕ, ◌+◌, ◌≤◌, Bool, true, false, cond, ltb, [], ◌∷◌, Some, sym, ◌∙◌, ap, arith}
-use Rattle.std.proofs.Common.{subst, ◌*◌, ℤ, pos, ◌-ℤ◌, w64, to_z, of_z}
+use Rattle.std.proofs.Common.{subst, ◌*◌, ℤ, pos, ◌-ℤ◌, FitsSigned, w64, to_z, of_z}
 use Rattle.std.specs.Prelude.{◌<ℤ◌}
 use Rattle.std.proofs.lemmas.Bool.{or_from}
 use Rattle.std.proofs.lemmas.Int.{ints}
@@ -22,6 +22,12 @@ left_over : (m v : ℤ) (k r a : ℕ) → m ≡ pos r -ℤ pos a → v ≡ pos k
     a ≤ 2 * DISTANCE_LIMIT →
     to_z w64 (of_z w64 (to_z w64 (of_z w64 m) -ℤ to_z w64 (of_z w64 v))) ≡ pos r -ℤ pos (a + k)
 left_over m v k r a h j lk lr la = omega (arith, ints)
+
+-- the distance of a new edge, subtracted from the distances of two old edges minus one that is new
+pub difference_fits : (m v : ℤ) (p q r k : ℕ) → m ≡ pos (p + q) -ℤ pos r → v ≡ pos k →
+    p ≤ DISTANCE_LIMIT → q ≤ DISTANCE_LIMIT → r ≤ DISTANCE_LIMIT → k ≤ DISTANCE_LIMIT →
+    FitsSigned w64 (to_z w64 (of_z w64 m) -ℤ to_z w64 (of_z w64 v))
+difference_fits m v p q r k is far lp lq lr lk = omega (arith, ints)
 
 pub or_found : (d : ℕ → ℕ → ℕ) (may : Offer → Bool) (x y w : ℕ) (s : Segment) (o : Offer) (margin v : ℤ) (t u : ℕ) →
     ((a b : ℕ) → d a b ≤ DISTANCE_LIMIT) → covers x s y ≡ false → covers x s w ≡ false →

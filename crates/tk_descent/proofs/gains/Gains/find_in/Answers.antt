@@ -1,4 +1,5 @@
-use Rattle.std.proofs.Common.{◌∙◌, FitsSigned, w64, rules, sym}
+use Rattle.std.proofs.lemmas.Grind.{common_steps}
+use Rattle.std.proofs.Common.{◌∙◌, FitsSigned, w64, rules, sym, arith}
 use Rattle.tk_descent.proofs.OfferLists.OneByOne.{Searched-not_worth, Searched-not_allowed, Searched-allowed}
 use Rattle.tk_descent.proofs.gains.Gains.find_in.Goals as goal
 use Rattle.tk_descent.proofs.gains.Gains.find_in.Goals.{else-gain-gt0-via-then-gain-gt0+else-allows}
@@ -31,3 +32,6 @@ loop-offer-preserved g c =
       table = c.gain-gain.ensures.same.0 ∙ i.table;
       range = c.gain-gain.ensures.same.1 ∙ i.range;
     }
+
+pub returns-clause-searched : goal.returns-clause-searched
+returns-clause-searched g c = grind (arith, common_steps)

@@ -1,6 +1,6 @@
-use Rattle.std.proofs.Common.{sym, ◌∙◌, subst, pos, w64, rules}
+use Rattle.std.proofs.Common.{sym, ◌∙◌, subst, pos, w64, arith, rules}
 use Rattle.std.specs.Prelude.{◌<ℤ◌}
-use Rattle.std.proofs.lemmas.Int.{to_z-of_z}
+use Rattle.std.proofs.lemmas.Int.{ints, to_z-of_z}
 use Rattle.tk_descent.proofs.OfferLists.Gaining.{or_found}
 use Rattle.tk_descent.proofs.looks.looking.try_or.Goals as goal
 use mir.Val.{SFits}
@@ -17,3 +17,6 @@ returns g c =
     (subst (λ z. pos (g.M.Metric.distance m c.args.segment.now.last c.args.w) <ℤ z)
     (to_z-of_z w64 c.args.margin fits) (c.is_nearer.ensures.0 c.if-not-is_nearer.false))
     c.saturating_add.ensures
+
+pub overflow_sub-result : goal.overflow_sub-result
+overflow_sub-result g c = omega (arith, ints, g.met.M.Metric.distance_limit c.args.metric.now)

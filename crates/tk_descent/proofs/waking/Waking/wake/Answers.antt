@@ -1,3 +1,4 @@
+use Rattle.std.proofs.lemmas.Grind.{common_steps}
 use Rattle.std.proofs.Common.{arith, ap, ◌∙◌, ◌<◌, length}
 use Rattle.tk_descent.proofs.WakeRuns.Queue.{pushed_ring, IsWaking-wake}
 use Rattle.tk_descent.proofs.waking.Waking.wake.Goals as goal
@@ -25,3 +26,6 @@ returns-then-not-index-clause-queue c =
     (pushed_ring inside.queue.items c.args.self.now.queue inside.awake.items c.args.city inside.queue.capacity
     c.push_back-dropped.new.self c.index.result.now c.self.invariant.2 in' c.index.ensures c.if-not-index.true
     (c.self.invariant.0 ∙ inside.awake.ok.0) (ap (λ z. z.queue) c.self.view_is) c.push_back-dropped.ensures.items).0
+
+pub returns-else-not-index-clause-queue : goal.returns-else-not-index-clause-queue
+returns-else-not-index-clause-queue c = grind (arith, common_steps)
