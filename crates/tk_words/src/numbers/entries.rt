@@ -11,7 +11,7 @@ use crate::keyword::{Keyword, keyword_of};
 use crate::numbers::integers::integer;
 
 /// How a token is read where a number is expected.
-#[derive(Clone, Copy, PartialEq, Eq)]
+#[derive(Clone, Copy)]
 pub enum Entry {
     /// An integer.
     Number(i64),

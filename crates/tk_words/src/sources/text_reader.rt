@@ -4,7 +4,7 @@ ghost use Rattle.tk_words.specs.Texts.{Texts, OfSource, OfText, line_behind};
 ghost use Rattle.tk_words.specs.Taking.{HasTaken, HasEnded};
 
 /// The result of passing bytes to a reader.
-#[derive(Clone, Copy, Debug, PartialEq, Eq)]
+#[derive(Clone, Copy)]
 pub enum Step {
     /// The reader has taken this many of them, and the text continues.
     Taken(usize),

@@ -1,3 +1,4 @@
+use Rattle.std.proofs.lemmas.Grind.{common_steps}
 use Rattle.std.proofs.Common.{Ok, Err, sym, ap, ◌∙◌, arith}
 use Rattle.std.proofs.lemmas.Result.{err_from_is_err_and}
 use Rattle.tk_words.proofs.NumberLaws.Digits.{negated, decimal-minus}
@@ -16,3 +17,6 @@ returns-in_ok-billionths-in-45-clause-value c =
     let z = c.in_ok-billionths-in-45.field-0 in
     ap Ok (negated z c.in_ok-billionths-in-45.ensures.bound)
     ∙ sym (decimal-minus bytes (Ok z) (omega arith) (omega arith) c.in_ok-billionths-in-45.ensures.value)
+
+pub returns-in-43-clause-value : goal.returns-in-43-clause-value
+returns-in-43-clause-value c = grind (arith, common_steps)

@@ -1,3 +1,4 @@
+use Rattle.std.proofs.lemmas.Grind.{common_steps}
 use Rattle.std.proofs.Common.{◌≤◌, min, ◌-◌, ◌*◌, ◌^◌, take, length, refl, ap, sym, subst, ◌∙◌, arith}
 use Rattle.std.specs.Option.{SomeIff}
 use Rattle.tk_words.specs.declared.numbers.decimals.TheConstants.{LIMIT}
@@ -48,3 +49,9 @@ returns c =
     let total = ap (λ n. n * 10 ^ (c.args.count - a - b)) same
     ∙ sym (first_of_two whole fraction c.args.count a b c.min-in_whole.ensures c.min-in_fraction.ensures) in
     subst (λ n. SomeIff c.append_zeros.result (n ≤ LIMIT) n) total c.append_zeros.ensures
+
+pub append_digits-requires-clause-digits : goal.append_digits-requires-clause-digits
+append_digits-requires-clause-digits c = grind (arith, common_steps)
+
+pub append_digits-requires-2-clause-digits : goal.append_digits-requires-2-clause-digits
+append_digits-requires-2-clause-digits c = grind (arith, common_steps)

@@ -1,3 +1,4 @@
+use Rattle.std.proofs.lemmas.Grind.{common_steps}
 use Rattle.std.proofs.Common.{◌≡◌, pos, Some, w64, arith, ap, sym, ◌∙◌}
 use Rattle.std.proofs.lemmas.List.{at_drop_all}
 use Rattle.std.proofs.lemmas.Int.{to_z_pos}
@@ -34,3 +35,9 @@ returns-clause-bound c =
     let n = c.loop-byte.number in
     let small = below_limit n c.loop-byte.byte-index c.loop-byte.invariant.small (omega arith) in
     rw (to_z_pos w64 n (omega (arith, small))) small
+
+pub returns-then-not-is_ascii_digit-clause-value : goal.returns-then-not-is_ascii_digit-clause-value
+returns-then-not-is_ascii_digit-clause-value c = grind (arith, common_steps)
+
+pub loop-byte-preserved : goal.loop-byte-preserved
+loop-byte-preserved c = grind (arith, common_steps)

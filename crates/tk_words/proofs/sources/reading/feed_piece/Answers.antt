@@ -1,3 +1,4 @@
+use Rattle.std.proofs.lemmas.Grind.{common_steps}
 use Rattle.std.proofs.Common.{◌≡◌, ◌+◌, ◌≤◌, ◌++◌, Bool, true, false, length, take, arith, subst, Result, Ok, Err}
 use Rattle.std.proofs.lemmas.Result.{err_from_is_err_and}
 use Rattle.tk_words.proofs.Driving.{part_size, taken_on, decided_within, told_within, too_long_at}
@@ -115,3 +116,12 @@ returns-in_err-feed-2-clause-room g c =
 
 pub returns-in-Done-2-clause-room : goal.returns-in-Done-2-clause-room
 returns-in-Done-2-clause-room g c = λ on. absurd (ended on)
+
+pub feed-requires-clause-room : goal.feed-requires-clause-room
+feed-requires-clause-room g c = grind (arith, common_steps)
+
+pub returns-then-end-piece-clause-taken : goal.returns-then-end-piece-clause-taken
+returns-then-end-piece-clause-taken g c = grind (arith, common_steps)
+
+pub feed-requires-2-clause-room : goal.feed-requires-2-clause-room
+feed-requires-2-clause-room g c = grind (arith, common_steps)
