@@ -9,7 +9,7 @@ use crate::scan::Scan;
 use tk_words::{Keyword, Lexeme, TextKind};
 
 /// The effect of a token on its section.
-#[derive(Clone, Copy, PartialEq, Eq)]
+#[derive(Clone, Copy)]
 pub enum Taken {
     /// More tokens follow.
     More,

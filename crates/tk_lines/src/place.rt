@@ -3,7 +3,7 @@
 use tk_words::Keyword;
 
 /// The state of a reader: the part of the text that it is in.
-#[derive(Clone, Copy, PartialEq, Eq)]
+#[derive(Clone, Copy)]
 pub enum Place {
     /// Before the first word of a line.
     Start,
@@ -26,7 +26,7 @@ pub enum Place {
 }
 
 /// Whether a text continues (`On`) or has ended (`Whole`).
-#[derive(Clone, Copy, PartialEq, Eq)]
+#[derive(Clone, Copy)]
 pub enum Flow {
     On,
     Whole,

@@ -11,7 +11,7 @@ ghost use Rattle.tk_lines.specs.Reader.Forms.{IsToldWord};
 use tk_words::{Held, TextKind, blank, integer, limited, spelled};
 
 /// How far a value has been read.
-#[derive(Clone, Copy, PartialEq, Eq)]
+#[derive(Clone, Copy)]
 pub enum Phase {
     Before,
     Behind,
