@@ -4,7 +4,7 @@ ghost use Rattle.tk_lists.specs.Reader.SolutionReader.{IsHead, HasStepped};
 use tk_words::blank;
 
 /// The state within the head of a Route line.
-#[derive(Clone, Copy, PartialEq, Eq)]
+#[derive(Clone, Copy)]
 pub enum HeadPlace {
     /// After the word, before a `#` or the number.
     Word,
@@ -17,7 +17,7 @@ pub enum HeadPlace {
 }
 
 /// The effect of a byte on a head.
-#[derive(Clone, Copy, PartialEq, Eq)]
+#[derive(Clone, Copy)]
 pub enum HeadStep {
     /// The head continues in this state.
     At(HeadPlace),

@@ -17,7 +17,7 @@ use std::alloc::Global;
 use tk_words::{Held, TextKind, blank, spelled, word_byte};
 
 /// The state of a reader within a line.
-#[derive(Clone, Copy, PartialEq, Eq)]
+#[derive(Clone, Copy)]
 pub enum LinePlace {
     /// Before the first word.
     Start,
@@ -42,7 +42,7 @@ pub enum LinePlace {
 }
 
 /// The first word of a line.
-#[derive(Clone, Copy, PartialEq, Eq)]
+#[derive(Clone, Copy)]
 pub enum LineWord {
     Route,
     Cost,
