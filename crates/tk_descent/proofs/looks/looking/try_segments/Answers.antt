@@ -1,3 +1,5 @@
+use Rattle.std.proofs.lemmas.Grind.{common_steps}
+use Rattle.std.proofs.Common.{arith}
 use Rattle.tk_descent.specs.Ruled.{IsOnTour}
 use Rattle.tk_descent.specs.Sharing.{piece_offers}
 use Rattle.tk_descent.proofs.OfferLists.OnCycle.{each-at}
@@ -21,3 +23,6 @@ pub try_piece-requires-clause-on_tour : goal.try_piece-requires-clause-on_tour
 try_piece-requires-clause-on_tour g c =
     each-at (IsOnTour (g.S.TourStore.cities c.args.tour.now)) (piece_offers c.args.x c.args.y.now) c.args.pieces.now
     c.loop-piece.piece-index _ c.loop-piece-test.true c.requires.on_tour
+
+pub returns : goal.returns
+returns g c = grind (arith, common_steps)
