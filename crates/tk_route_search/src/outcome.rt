@@ -15,7 +15,7 @@ use tk_routes::Cvrp;
 use tk_tour::ArrayTour;
 
 /// The report of a run.
-#[derive(Clone, Copy, PartialEq, Eq, Debug)]
+#[derive(Clone, Copy, PartialEq, Eq)]
 pub struct RouteRun {
     /// The cost of its best routes.
     pub best: i64,

@@ -1,12 +1,15 @@
 //! One run: the first descent and the trials of a search from a ring.
-ghost use Rattle.std.specs.Prelude.{◌≡◌, ◌<◌, IfOk, OnOk, List, length};
+ghost use Rattle.std.specs.Prelude.{◌≡◌, ◌+◌, ◌<◌, ℕ, IfOk, OnOk, List, length};
+ghost use Rattle.rand_core.specs.Stream.{Stream};
 ghost use Rattle.tk_routes.specs.Cvrps.{instance_of};
 ghost use Rattle.tk_routes.specs.Instance.{customer_count};
 ghost use Rattle.tk_ring_search.specs.Given.{given_of};
 ghost use Rattle.tk_ring_search.specs.SearchOf.{search_of};
+ghost use Rattle.tk_ring_search.specs.Searching.{IsBegun};
 ghost use Rattle.tk_ring_search.specs.Totals.{is_better};
+ghost use Rattle.tk_solve.specs.Runs.{words_of};
 ghost use Rattle.tk_route_search.specs.Events.{Event};
-ghost use Rattle.tk_route_search.specs.Runs.{IsSearched};
+ghost use Rattle.tk_route_search.specs.Runs.{IsSearched, Trials};
 ghost use Rattle.tk_route_search.specs.Tasks.{IsInput, IsRing, task_of};
 ghost use Rattle.tk_route_search.specs.Watching.{IsTold, WereShown};
 
@@ -50,28 +53,23 @@ fn is_better(outcome: Outcome) -> bool
     matches!(outcome, Outcome::Better)
 }
 
-/// The search of run j, counted from 0, after its trials. The observer has been shown its first descent and each trial.
-pub(crate) fn search_run<'a, M: Metric, W: RouteWatch>(
+/// Makes the trials of run j, counted from 0, whose search has begun. Shows its first descent and each trial to the
+/// observer.
+fn make_trials<M: Metric, W: RouteWatch>(
     alloc: Global,
     cvrp: &Cvrp<'_>,
-    terms: RingTerms<'a, M>,
-    ring: &[u32],
+    search: &mut RingSearch<'_, ArrayTour, M>,
     options: &SearchOptions<'_>,
     j: u32,
     watch: &mut W,
-) -> Result<RingSearch<'a, ArrayTour, M>, AllocError>
+) -> Result<(), AllocError>
     requires run { j < options.now.runs }
-    requires size { M.size_of terms.metric.now ≡ length ring.now }
-    requires input { IsInput (task_of cvrp.now options.now) ring.now (given_of M.Metric terms) }
-    ensures searched { IfOk result (λ s. (shown : List Event)
-        × (IsSearched (task_of cvrp.now options.now) (given_of M.Metric terms.entry) ring.now j shown (search_of s)
-        × WereShown W.shows watch.old watch.new shown)) }
-    ensures ring { IfOk result (λ s. IsRing (instance_of cvrp.now) (length ring.now) (search_of s).best) }
+    requires begun { (ring : List ℕ) × (IsInput (task_of cvrp.now options.now) ring (search_of search.old).given
+        × IsBegun (search_of search.old).given ring (search_of search.old)) }
+    ensures trials { OnOk result ((shown : List Event) × ((rest : Stream)
+        × (Trials (task_of cvrp.now options.now) j (search_of search.old) (words_of (options.now.seed + j))
+        options.now.trials shown (search_of search.new) rest × WereShown W.shows watch.old watch.new shown))) }
 {
-    let Ok(start) = ArrayTour::from_list(alloc, ring) else {
-        return Err(AllocError);
-    };
-    let mut search = RingSearch::begin(alloc, terms, start)?;
     let mut generator = Pcg32::seed_from_u64(options.seed as u64 + j as u64);
     let first = RouteProgress {
         run: j + 1,
@@ -95,5 +93,31 @@ pub(crate) fn search_run<'a, M: Metric, W: RouteWatch>(
         let is_new = is_better(report.outcome);
         tell(alloc, cvrp, &progress, search.best(), is_new, watch)?;
     }
+    Ok(())
+}
+
+/// The search of run j, counted from 0, after its trials. The observer has been shown its first descent and each trial.
+pub(crate) fn search_run<'a, M: Metric, W: RouteWatch>(
+    alloc: Global,
+    cvrp: &Cvrp<'_>,
+    terms: RingTerms<'a, M>,
+    ring: &[u32],
+    options: &SearchOptions<'_>,
+    j: u32,
+    watch: &mut W,
+) -> Result<RingSearch<'a, ArrayTour, M>, AllocError>
+    requires run { j < options.now.runs }
+    requires size { M.size_of terms.metric.now ≡ length ring.now }
+    requires input { IsInput (task_of cvrp.now options.now) ring.now (given_of M.Metric terms) }
+    ensures searched { IfOk result (λ s. (shown : List Event)
+        × (IsSearched (task_of cvrp.now options.now) (given_of M.Metric terms.entry) ring.now j shown (search_of s)
+        × WereShown W.shows watch.old watch.new shown)) }
+    ensures ring { IfOk result (λ s. IsRing (instance_of cvrp.now) (length ring.now) (search_of s).best) }
+{
+    let Ok(start) = ArrayTour::from_list(alloc, ring) else {
+        return Err(AllocError);
+    };
+    let mut search = RingSearch::begin(alloc, terms, start)?;
+    make_trials(alloc, cvrp, &mut search, options, j, watch)?;
     Ok(search)
 }

@@ -6,7 +6,7 @@ ghost use Rattle.tk_route_search.specs.Events.{Begun, Tried, Ended};
 use crate::outcome::RouteRun;
 
 /// The progress of a search for routes.
-#[derive(Clone, Copy, PartialEq, Eq, Debug)]
+#[derive(Clone, Copy)]
 pub struct RouteProgress {
     /// The run, counted from 1.
     pub run: u32,

@@ -1,6 +1,7 @@
 use Rattle.std.proofs.Common.{◌≡◌, ℕ, ◌+◌, ◌-◌, ◌<◌, ◌≤◌, List, [], ◌∷◌, ◌++◌, map, pos, take, get_or, sym, ap}
 use Rattle.std.proofs.Common.{◌∙◌, subst, arith, min, ℤ, FitsSigned, w64, true, false}
 use Rattle.std.specs.Int.Signed.{lt_z}
+use Rattle.std.specs.List.{All}
 use Rattle.std.proofs.lemmas.Int.{ints, to_z-of_z}
 use Rattle.std.proofs.lemmas.List.{get_or-map, map-append, take_more}
 use Rattle.std.proofs.lemmas.List.Elements.{All-append, All-cons, All-nil}
@@ -73,6 +74,27 @@ cost_is cvrp rung valid is =
 next_length : (others k : ℕ) → k < 8 →
     get_or (ladder others) k 0 ≡ min (get_or (3 ∷ 5 ∷ 8 ∷ 12 ∷ 20 ∷ 32 ∷ 50 ∷ 100 ∷ []) k 0) others
 next_length others k lt = get_or-map (λ v. min v others) (3 ∷ 5 ∷ 8 ∷ 12 ∷ 20 ∷ 32 ∷ 50 ∷ 100 ∷ []) k 0 0 lt
+
+-- each length of the ladder is that of near lists
+abbrev IsLength : ℕ → Type 0
+IsLength v = (1 ≤ v) × (v ≤ 100)
+
+more : (v : ℕ) (vs : List ℕ) → 1 ≤ v → v ≤ 100 → All IsLength vs → All IsLength (v ∷ vs)
+more v vs least most all = All-cons IsLength v vs (least, most) all
+
+are_lengths : All IsLength (3 ∷ 5 ∷ 8 ∷ 12 ∷ 20 ∷ 32 ∷ 50 ∷ 100 ∷ [])
+are_lengths =
+    more 3 (5 ∷ 8 ∷ 12 ∷ 20 ∷ 32 ∷ 50 ∷ 100 ∷ []) (omega arith) (omega arith)
+    (more 5 (8 ∷ 12 ∷ 20 ∷ 32 ∷ 50 ∷ 100 ∷ []) (omega arith) (omega arith)
+    (more 8 (12 ∷ 20 ∷ 32 ∷ 50 ∷ 100 ∷ []) (omega arith) (omega arith)
+    (more 12 (20 ∷ 32 ∷ 50 ∷ 100 ∷ []) (omega arith) (omega arith)
+    (more 20 (32 ∷ 50 ∷ 100 ∷ []) (omega arith) (omega arith)
+    (more 32 (50 ∷ 100 ∷ []) (omega arith) (omega arith)
+    (more 50 (100 ∷ []) (omega arith) (omega arith)
+    (more 100 [] (omega arith) (omega arith) (All-nil IsLength))))))))
+
+pub savings_over-requires-in-loop-k : goal.savings_over-requires-in-loop-k
+savings_over-requires-in-loop-k c = are_lengths c.loop-k.k 0 c.loop-k-test.true
 
 pub loop-k-init : goal.loop-k-init
 loop-k-init c =
