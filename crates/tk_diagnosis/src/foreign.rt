@@ -114,7 +114,9 @@ fn begins_blank(bytes: &[u8]) -> bool
 fn is_edges(first: &[u8], second: &[u8]) -> bool
     ensures { result ≡ Files.is_edges first.now second.now }
 {
-    has_equal_numbers(first) && is_pair(first) && is_triple(second)
+    has_equal_numbers(first)
+        && is_end(after_two(first, u64::MAX))
+        && is_end(after_three(second, u64::MAX))
 }
 
 /// Whether the first two tokens of a line are the same number, or are not numbers.
@@ -149,27 +151,14 @@ fn has_cities(line: &[u8], cities: u64) -> bool
 fn is_number(line: &[u8]) -> bool
     ensures { result ≡ Files.is_end (Files.after_number Files.any line.now) }
 {
-    match after_number(line, u64::MAX) {
-        Some(rest) => is_blank_line(rest),
-        None => false,
-    }
+    is_end(after_number(line, u64::MAX))
 }
 
-/// Whether a line contains two numbers, and nothing else.
-fn is_pair(line: &[u8]) -> bool
-    ensures { result ≡ Files.is_end (Files.after_two Files.any line.now) }
+/// Whether only blanks come after the numbers of a line, if it has them.
+fn is_end(rest: Option<&[u8]>) -> bool
+    ensures { result ≡ Files.is_end (option_map (λ s. s.now) rest.entry) }
 {
-    match after_two(line, u64::MAX) {
-        Some(rest) => is_blank_line(rest),
-        None => false,
-    }
-}
-
-/// Whether a line contains three numbers, and nothing else.
-fn is_triple(line: &[u8]) -> bool
-    ensures { result ≡ Files.is_end (Files.after_three Files.any line.now) }
-{
-    match after_three(line, u64::MAX) {
+    match rest {
         Some(rest) => is_blank_line(rest),
         None => false,
     }

@@ -34,7 +34,7 @@ impl Named {
             return None;
         }
         let node = natural(bytes)?;
-        let first = self.lines.get_mut(usize::try_from(node).ok()?)?;
+        let first = self.lines.get_mut(node as usize)?;
         if *first != 0 {
             return Some(Repeat {
                 node,

@@ -35,7 +35,7 @@ fn size_of(spot: &Spot<'_>, section: Keyword) -> Option<Size> {
     let numbers = match section {
         Keyword::EdgeWeightSection => weights_of(spot, nodes)?,
         Keyword::NodeCoordSection | Keyword::DemandSection | Keyword::DisplayDataSection => {
-            nodes.checked_mul(entry_width(section))?
+            nodes.saturating_mul(entry_width(section))
         }
         _ => return None,
     };
@@ -56,21 +56,25 @@ fn format_of(word: &[u8]) -> Option<Format> {
     None
 }
 
-/// The number of weights in the file's EDGE_WEIGHT_FORMAT; `None` if there is no such header, or the number is too
-/// large.
+/// The number of weights in the file's EDGE_WEIGHT_FORMAT; `None` if there is no such header.
 fn weights_of(spot: &Spot<'_>, nodes: u64) -> Option<u64> {
-    let format = format_of(first_token(header(spot.text, Keyword::EdgeWeightFormat)?.bytes));
-    let all = nodes.checked_mul(nodes)?;
-    let below = all.checked_sub(nodes)? / 2;
+    let found = header(spot.text, Keyword::EdgeWeightFormat)?;
+    Some(weights_in(format_of(first_token(found.bytes)), nodes))
+}
+
+/// The number of weights in a format.
+fn weights_in(format: Option<Format>, nodes: u64) -> u64 {
+    let all = nodes.saturating_mul(nodes);
+    let below = all.saturating_sub(nodes) / 2;
     match format {
-        Some(Format::FullMatrix) => Some(all),
+        Some(Format::FullMatrix) => all,
         Some(
             Format::UpperDiagRow
             | Format::LowerDiagRow
             | Format::UpperDiagCol
             | Format::LowerDiagCol,
-        ) => below.checked_add(nodes),
-        _ => Some(below),
+        ) => below.saturating_add(nodes),
+        _ => below,
     }
 }
 

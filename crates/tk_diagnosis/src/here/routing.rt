@@ -152,7 +152,7 @@ fn mirrored<'a>(weight: Found<'a>, row: u64, column: u64) -> Sentence<'a> {
 
 /// An entry of a full matrix. Rows and columns are counted from 1.
 fn entry_at<'a>(spot: &Spot<'a>, size: u64, row: u32, column: u32) -> Option<Found<'a>> {
-    let before = u64::from(row).checked_sub(1)?.checked_mul(size)?;
-    let index = before.checked_add(u64::from(column).checked_sub(1)?)?;
+    let before = u64::from(row).saturating_sub(1).saturating_mul(size);
+    let index = before.saturating_add(u64::from(column).saturating_sub(1));
     number_at(spot.text, Keyword::EdgeWeightSection, index)
 }
