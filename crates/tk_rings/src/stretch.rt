@@ -4,7 +4,7 @@ ghost use Rattle.tk_rings.specs.Rings.{is_closed, join, turned, IsLight};
 ghost use Rattle.tk_rings.specs.declared.stretch.Stretch.{Stretch};
 
 /// The loads of a part of a ring.
-#[derive(Clone, Copy, PartialEq, Eq, Debug)]
+#[derive(Clone, Copy, PartialEq, Eq)]
 pub struct Stretch {
     /// Whether it contains a copy of the depot.
     pub parted: bool,

@@ -11,7 +11,7 @@ use tk_tour::TourStore;
 const DRAWS: u32 = 1_000;
 
 /// A kick after which a ring fits, and how many kicks were drawn.
-#[derive(Clone, Copy, PartialEq, Eq, Debug)]
+#[derive(Clone, Copy)]
 pub struct Drawn {
     /// The last kick drawn, or `None` if the ring would not fit after any of them.
     pub kick: Option<Kick>,

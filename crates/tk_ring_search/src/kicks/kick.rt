@@ -19,7 +19,7 @@ const PART: u32 = 10;
 
 /// A double bridge of a ring of n elements, read from a position on: the three cuts leave three parts of at most 10
 /// elements, and the rest.
-#[derive(Clone, Copy, PartialEq, Eq, Debug)]
+#[derive(Clone, Copy, PartialEq, Eq)]
 pub struct Kick {
     /// The position of the first element of the first part: 1 to n.
     pub first: u32,

@@ -20,7 +20,7 @@ pub struct RingTrial {
 }
 
 /// What a search has done so far.
-#[derive(Clone, Copy, PartialEq, Eq, Debug)]
+#[derive(Clone, Copy, PartialEq, Eq)]
 pub struct RingTotals {
     /// The cost of the ring that the search began with.
     pub start: i64,

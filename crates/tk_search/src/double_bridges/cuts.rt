@@ -9,7 +9,7 @@ use tk_tour::TourStore;
 
 /// Three cuts of a tour of n cities into four parts: positions 1 to `p`, `p + 1` to `q`, `q + 1` to `r`, and `r + 1` to
 /// n.
-#[derive(Clone, Copy, PartialEq, Eq, Debug)]
+#[derive(Clone, Copy, PartialEq, Eq)]
 pub struct Cuts {
     /// The number of cities in the first part.
     pub p: u32,

@@ -12,7 +12,7 @@ use tk_near::Near;
 use tk_tour::TourStore;
 
 /// The rules of the descents of a search.
-#[derive(Clone, Copy, PartialEq, Eq, Debug)]
+#[derive(Clone, Copy)]
 pub struct SearchRules {
     /// Whether each descent is swept: it makes passes, each with all cities awake, until one makes no move.
     pub sweep: bool,
