@@ -1,6 +1,1 @@
 pub mod DistanceTypes
-pub mod Foreign
-pub mod Kinds
-pub mod Lines
-pub mod Misread
-pub mod Wrappings

@@ -10,9 +10,9 @@ mod unsupported;
 mod words;
 
 use crate::fault::FileFault;
-use crate::kind::Kind;
 use crate::spot::{Here, Spot};
 use std::alloc::AllocError;
+use tk_kinds::Kind;
 use tk_words::TextKind;
 
 /// The diagnosis of a fault at its line.

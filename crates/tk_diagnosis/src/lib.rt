@@ -1,12 +1,9 @@
 //! Diagnoses of files: what was expected at the line of a fault, what was found there and what to do, as sentences.
-//! Also the kind of a file, and how its other lines are read.
+//! Also how the other lines of a file are read.
 #![tactic(auto)]
 
 mod fault;
-mod foreign;
 mod here;
-mod kind;
-mod lines;
 mod nearest;
 mod place;
 mod remark;
@@ -19,11 +16,9 @@ mod wrapping;
 
 pub use fault::FileFault;
 pub use here::here_at;
-pub use kind::{Kind, begins_with_key, kind_of};
-pub use lines::last_line;
 pub use remark::Remark;
 pub use sentence::Sentence;
 pub use shown::shown_line;
 pub use spot::{Here, Spot};
 pub use taken::taken_for;
-pub use wrapping::{wrapped, wrapping_of};
+pub use wrapping::wrapped;

@@ -1,10 +1,9 @@
 //! The position of a line in a problem or a tour text, which is read line by line and without regard to faults.
-ghost use Rattle.std.specs.Prelude.{◌≡◌, ◌≤◌};
-ghost use Rattle.tk_diagnosis.specs.Lines.{number};
+ghost use Rattle.std.specs.Prelude.{◌≤◌};
 
-use crate::lines::{
-    Found, count_tokens, first_token, header, keyword_at, lines_of, token_after, tokens_of,
-    value_behind,
+use tk_kinds::{
+    Found, count_tokens, first_token, header, keyword_at, lines_of, natural, token_after,
+    tokens_of, value_behind,
 };
 use tk_words::{Keyword, Role, integer};
 
@@ -150,16 +149,6 @@ fn node_on(line: &[u8], section: Keyword, begun: u64, node: i64) -> Option<u64> 
 /// The number that is the value of a header, if there is one.
 pub fn header_number(text: &[u8], word: Keyword) -> Option<u64> {
     natural(first_token(header(text, word)?.bytes))
-}
-
-/// The number that these bytes spell, if they spell an integer that is not negative.
-pub fn natural(bytes: &[u8]) -> Option<u64>
-    ensures { result ≡ number bytes.now }
-{
-    match integer(bytes) {
-        Some(number) if number >= 0 => Some(number as u64),
-        _ => None,
-    }
 }
 
 /// The first line of a section, up to line `last`, that has an incomplete entry: its line number, and the count of its

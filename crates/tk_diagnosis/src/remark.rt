@@ -1,8 +1,8 @@
 //! Remarks on files without a fault that are probably not what their author means.
-use crate::lines::{
-    Found, first_token, length_before, lines_of, split_word, tokens_of, value_behind,
+use crate::place::{node_index, number_at};
+use tk_kinds::{
+    Found, first_token, length_before, lines_of, natural, split_word, tokens_of, value_behind,
 };
-use crate::place::{natural, node_index, number_at};
 use tk_params::key_of;
 use tk_words::{Keyword, spelled};
 

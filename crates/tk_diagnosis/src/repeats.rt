@@ -1,7 +1,7 @@
 //! Nodes that a section names twice.
-use crate::lines::{Found, keyword_at, lines_of, tokens_of};
-use crate::place::{entry_width, natural};
+use crate::place::entry_width;
 use std::alloc::{AllocError, Global};
+use tk_kinds::{Found, keyword_at, lines_of, natural, tokens_of};
 use tk_words::Keyword;
 
 /// A repeated node, and the first line with it.

@@ -1,8 +1,7 @@
 //! The line of a fault, and its diagnosis.
-use crate::kind::Kind;
-use crate::lines::line_at;
 use crate::sentence::Sentence;
 use std::alloc::Global;
+use tk_kinds::{Kind, line_at};
 
 /// A line of a file, which is read as a file of this kind.
 #[derive(Clone, Copy)]

@@ -1,9 +1,8 @@
 //! How the lines of a file are read.
-use crate::kind::Kind;
-use crate::lines::{Found, count_tokens, keyword_at, lines_of, split_word, value_behind};
 use crate::place::{Place, entry_width, place_of};
 use crate::sentence::Sentence;
 use crate::spot::Spot;
+use tk_kinds::{Found, Kind, count_tokens, keyword_at, lines_of, split_word, value_behind};
 use tk_params::key_of;
 use tk_words::{Keyword, Role, spelled};
 

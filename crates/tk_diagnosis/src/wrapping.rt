@@ -1,70 +1,8 @@
-//! Files that are not texts that tourkit can read, whatever their contents.
-ghost use Rattle.std.specs.Prelude.{◌≡◌};
-ghost use Rattle.tk_diagnosis.specs.Foreign.{foreign_of};
-ghost use Rattle.tk_diagnosis.specs.Wrappings as Files;
+//! Diagnoses of files that are not texts that tourkit can read, whatever their contents.
 
-use crate::foreign::{Foreign, foreign_here, foreign_of};
 use crate::sentence::Sentence;
 use crate::spot::Here;
-
-/// Why a file is not a text that can be read.
-#[derive(Clone, Copy)]
-pub enum Wrapping {
-    /// Compressed by gzip.
-    Gzip,
-    /// UTF-16, recognized by its byte order mark.
-    Utf16,
-    /// A byte order mark before a text in UTF-8.
-    Mark,
-    /// NUL bytes, which no text contains.
-    Binary,
-    /// The format of another program.
-    Foreign(Foreign),
-}
-
-/// Why a file is not a text that can be read, if the line with this number shows it: the first line by its first bytes,
-/// any line by a NUL byte, and the first two lines by the format of another program.
-pub fn wrapping_of(text: &[u8], number: u64, line: &[u8]) -> Option<Wrapping>
-    ensures { result ≡ Files.wrapping_of text.now number line.now }
-{
-    if number == 1 {
-        if let Some(wrapping) = begun_by(text) {
-            return Some(wrapping);
-        }
-    }
-    if line.contains(&0) {
-        return Some(Wrapping::Binary);
-    }
-    if number <= 2 {
-        return in_foreign(text);
-    }
-    None
-}
-
-/// Why a file is not a text that can be read, if its first bytes show it.
-fn begun_by(text: &[u8]) -> Option<Wrapping>
-    ensures { result ≡ Files.begun_by text.now }
-{
-    if text.starts_with(b"\x1f\x8b") {
-        Some(Wrapping::Gzip)
-    } else if text.starts_with(b"\xef\xbb\xbf") {
-        Some(Wrapping::Mark)
-    } else if text.starts_with(b"\xff\xfe") || text.starts_with(b"\xfe\xff") {
-        Some(Wrapping::Utf16)
-    } else {
-        None
-    }
-}
-
-/// The format of another program, if a file has one.
-fn in_foreign(text: &[u8]) -> Option<Wrapping>
-    ensures { result ≡ Files.in_foreign (foreign_of text.now) }
-{
-    match foreign_of(text) {
-        Some(foreign) => Some(Wrapping::Foreign(foreign)),
-        None => None,
-    }
-}
+use tk_kinds::{Foreign, Wrapping};
 
 /// The diagnosis of a file that is not a text that can be read.
 pub fn wrapped<'a>(wrapping: Wrapping) -> Here<'a> {
@@ -88,4 +26,44 @@ pub fn wrapped<'a>(wrapping: Wrapping) -> Here<'a> {
         Wrapping::Foreign(foreign) => return foreign_here(foreign),
     };
     Here::advised("a text in ASCII or UTF-8", Sentence::of(read), remedy)
+}
+
+/// The diagnosis of a file that another program wrote.
+fn foreign_here<'a>(foreign: Foreign) -> Here<'a> {
+    let (read, remedy) = match foreign {
+        Foreign::Csv => (
+            "a CSV file: values separated by commas or semicolons",
+            "For a TSP, write its places as coordinates, as in examples/square.tsp. For a CVRP, convert a file with \
+            the columns name, x, y and demand, separated by commas: \
+            examples/csv-to-cvrp --capacity N FILE >NEW.vrp",
+        ),
+        Foreign::Edges => (
+            "an edge list of linkern: two cities from 0 and a length on each line",
+            "Convert it to a tour file: examples/convert-tour FILE >NEW.tour",
+        ),
+        Foreign::Concorde => (
+            "a Concorde solution: the number of cities, and then the cities from 0",
+            "Convert it to a tour file: examples/convert-tour FILE >NEW.tour",
+        ),
+        Foreign::Column => (
+            "a list of numbers, one on a line, without headers",
+            "If it is a tour that counts from 1, write the lines TYPE : TOUR and TOUR_SECTION before it. If it \
+            counts from 0, convert it: examples/convert-tour FILE >NEW.tour",
+        ),
+        Foreign::Row => (
+            "a list of numbers on one line, without headers",
+            "If it is a tour, put one number on each line, and convert the result to a tour file: \
+            tr -cs 0-9 '\\n' <FILE | examples/convert-tour --from list /dev/stdin >NEW.tour",
+        ),
+        Foreign::Rows => (
+            "numbers without headers",
+            "Write headers and the keyword of a section before them, as in examples/tri.tour for a tour, \
+            examples/tri.tsp for coordinates and examples/five.tsp for distances.",
+        ),
+    };
+    Here::advised(
+        "a TSPLIB file, whose lines begin with keywords such as TYPE and DIMENSION",
+        Sentence::of(read),
+        remedy,
+    )
 }

@@ -12,8 +12,8 @@ use Rattle.tk_words.specs.declared.fault.TextKind.TheVariants as text
 use Rattle.tk_params.specs.declared.fault.ParamKind.TheVariants as params
 use Rattle.tk_explain.specs.declared.answer.Answer.{Answer}
 use Rattle.tk_explain.specs.declared.answer.Answer.TheVariants as answers
-use Rattle.tk_diagnosis.specs.declared.kind.Kind.{Kind}
-use Rattle.tk_diagnosis.specs.declared.kind.Kind.TheVariants as kinds
+use Rattle.tk_kinds.specs.declared.kind.Kind.{Kind}
+use Rattle.tk_kinds.specs.declared.kind.Kind.TheVariants as kinds
 use Rattle.tk_diagnosis.specs.declared.fault.FileFault.{FileFault}
 use Rattle.tk_diagnosis.specs.declared.fault.FileFault.TheVariants as faults
 

@@ -10,7 +10,8 @@ ghost use Rattle.tk_explain.specs.Answers.{fault_in, fault_of, text_fault, param
 use crate::sound::Sound;
 use crate::whole::Whole;
 use std::alloc::{AllocError, Global};
-use tk_diagnosis::{FileFault, Kind};
+use tk_diagnosis::FileFault;
+use tk_kinds::Kind;
 use tk_lists::{read_solution, read_tour};
 use tk_params::{ParamKind, read_params};
 use tk_problem_text::read_problem;

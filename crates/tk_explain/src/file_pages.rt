@@ -8,7 +8,8 @@ use crate::one_line::add_for_line;
 use crate::page::Page;
 use crate::whole_file::{File, add_answer};
 use std::alloc::{AllocError, Global};
-use tk_diagnosis::{FileFault, Kind};
+use tk_diagnosis::FileFault;
+use tk_kinds::Kind;
 
 /// The explanation of a file, which was read as a file of this kind.
 #[derive(Drop)]

@@ -3,7 +3,8 @@ use crate::answer::{Answer, answer_to};
 use crate::page::Page;
 use crate::whole_file::{File, Numbered, add_answer, add_sound};
 use std::alloc::AllocError;
-use tk_diagnosis::{FileFault, Kind, Spot, last_line, taken_for};
+use tk_diagnosis::{FileFault, Spot, taken_for};
+use tk_kinds::{Kind, last_line};
 
 /// Adds the explanation of a line.
 ///

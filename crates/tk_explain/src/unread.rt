@@ -3,7 +3,8 @@ ghost use Rattle.std.specs.Prelude.{◌≡◌};
 ghost use Rattle.tk_words.specs.Texts.{line_behind};
 ghost use Rattle.tk_explain.specs.Answers.{unread_of};
 
-use tk_diagnosis::{FileFault, Kind, last_line};
+use tk_diagnosis::FileFault;
+use tk_kinds::{Kind, last_line};
 use tk_params::{ParamFault, ParamKind};
 use tk_words::{TextFault, TextKind};
 

@@ -8,9 +8,8 @@ use crate::remark::remark_on;
 use crate::sound::Sound;
 use std::alloc::{AllocError, Global};
 use std::fmt;
-use tk_diagnosis::{
-    FileFault, Here, Kind, Remark, Spot, here_at, kind_of, shown_line, wrapped, wrapping_of,
-};
+use tk_diagnosis::{FileFault, Here, Remark, Spot, here_at, shown_line, wrapped};
+use tk_kinds::{Kind, kind_of, wrapping_of};
 
 /// A file that is explained.
 #[derive(Clone, Copy)]

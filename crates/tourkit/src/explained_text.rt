@@ -2,7 +2,7 @@
 use crate::input::Input;
 use std::alloc::{AllocError, Global};
 use std::io::Read;
-use tk_diagnosis::{Kind, kind_of, last_line};
+use tk_kinds::{Kind, kind_of, last_line};
 use tk_lists::{read_solution, read_tour};
 use tk_params::{ParamKind, read_params};
 use tk_problem::TEXT_LIMIT;

@@ -1,10 +1,10 @@
 //! Sections that end too early, and data where none is allowed.
-use crate::lines::{
-    count_tokens, first_token, header, header_line, keyword_at, token_after, tokens_of,
-};
 use crate::place::{Place, entry_width, header_number, numbers_in, place_of};
 use crate::sentence::Sentence;
 use crate::spot::{Here, Spot};
+use tk_kinds::{
+    count_tokens, first_token, header, header_line, keyword_at, token_after, tokens_of,
+};
 use tk_problem::{FORMATS, Format};
 use tk_words::{Keyword, keyword_in, letter, spelled};
 

@@ -1,9 +1,8 @@
 //! Missing headers and sections.
-use crate::kind::Kind;
-use crate::lines::{header, keyword_at};
 use crate::place::{entry_width, numbers_in};
 use crate::sentence::Sentence;
 use crate::spot::{Here, Spot};
+use tk_kinds::{Kind, header, keyword_at};
 use tk_words::{Keyword, Role};
 
 /// The diagnosis of a header or a section that is missing before a section, or in the whole file.

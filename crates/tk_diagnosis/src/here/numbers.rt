@@ -1,12 +1,14 @@
 //! Tokens that are not numbers, and numbers that a header or an entry does not allow.
-use super::misread::{DEMANDS, Misread, misread_of, read_as, remedy_of};
-use crate::kind::Kind;
-use crate::lines::{first_token, header_line, keyword_at, tokens_of, value_behind};
-use crate::place::{Place, entry_width, header_number, natural, place_of, uneven_line};
+use super::misread::{DEMANDS, read_as, remedy_of};
+use crate::place::{Place, entry_width, header_number, place_of, uneven_line};
 use crate::repeats::{Repeat, first_repeat};
 use crate::sentence::Sentence;
 use crate::spot::{Here, Spot};
 use std::alloc::AllocError;
+use tk_kinds::{
+    Kind, Misread, first_token, header_line, keyword_at, misread_of, natural, tokens_of,
+    value_behind,
+};
 use tk_problem::{CAPACITY_LIMIT, DISTANCE_LIMIT};
 use tk_words::{Keyword, Role, TextKind, decimal, integer};
 

@@ -1,10 +1,9 @@
 //! The faults of parameter files.
 use super::words::{or_nearest, remove_either};
-use crate::kind::is_other_key;
-use crate::lines::{Found, first_token, lines_of, split_word, value_behind};
 use crate::sentence::Sentence;
 use crate::spot::{Here, Spot};
 use std::alloc::AllocError;
+use tk_kinds::{Found, first_token, is_other_key, lines_of, split_word, value_behind};
 use tk_params::{Key, ParamKind, key_of};
 
 /// The keys that can be suggested for an unknown word.

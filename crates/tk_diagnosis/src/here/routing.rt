@@ -1,8 +1,8 @@
 //! Depots, demands, and matrices that are not symmetric.
-use crate::lines::{Found, first_token, header, tokens_of};
 use crate::place::{header_number, node_index, number_at, place_of};
 use crate::sentence::Sentence;
 use crate::spot::{Here, Spot};
+use tk_kinds::{Found, first_token, header, tokens_of};
 use tk_words::{Keyword, integer};
 
 /// The diagnosis of a depot section that does not name exactly one node, or of a depot with a demand.

@@ -1,9 +1,9 @@
 //! The faults of solution files.
-use crate::lines::{
-    Found, first_token, length_before, lines_of, split_word, token_after, tokens_of, value_behind,
-};
 use crate::sentence::Sentence;
 use crate::spot::{Here, Spot};
+use tk_kinds::{
+    Found, first_token, length_before, lines_of, split_word, token_after, tokens_of, value_behind,
+};
 use tk_words::{TextKind, integer, spelled};
 
 /// The syntax of a route.

@@ -2,10 +2,9 @@
 ghost use Rattle.std.specs.Prelude.{◌≡◌};
 ghost use Rattle.tk_diagnosis.specs.DistanceTypes.{is_converted};
 
-use crate::kind::Kind;
-use crate::lines::{first_token, header, header_line, keyword_at, value_behind};
 use crate::sentence::Sentence;
 use crate::spot::{Here, Spot};
+use tk_kinds::{Kind, first_token, header, header_line, keyword_at, value_behind};
 use tk_words::{Keyword, spelled};
 
 /// The remedy for a distance type that a script of the examples converts to explicit weights.

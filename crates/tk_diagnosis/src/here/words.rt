@@ -1,10 +1,9 @@
 //! Words that are unknown, repeated or too long.
-use crate::kind::Kind;
-use crate::lines::{header_line, keyword_at, split_word, tokens_of, value_behind};
 use crate::nearest::nearest;
 use crate::sentence::Sentence;
 use crate::spot::{Here, Spot};
 use std::alloc::{AllocError, Global};
+use tk_kinds::{Kind, header_line, keyword_at, split_word, tokens_of, value_behind};
 use tk_problem::TEXT_LIMIT;
 use tk_words::{Keyword, Role};
 

@@ -6,8 +6,9 @@ use crate::shown::shown_on_output;
 use std::fs;
 use std::io::Write;
 use std::process::ExitCode;
-use tk_diagnosis::{FileFault, kind_of};
+use tk_diagnosis::FileFault;
 use tk_explain::{fault_page, file_page, is_number, line_page, unread_fault};
+use tk_kinds::kind_of;
 
 /// `explain WHAT [LINE]`. Without a line, WHAT can be the number or the name of a fault; otherwise it is a file.
 ///

@@ -5,7 +5,7 @@ use crate::refusal::Refusal;
 use std::fs::File;
 use std::io::Read;
 use tk_command_line::SearchOptions;
-use tk_diagnosis::{Kind, begins_with_key, kind_of};
+use tk_kinds::{Kind, begins_with_key, kind_of};
 use tk_params::{Key, ParamKind, Params, ParamsBuilder};
 
 /// The number of bytes that are read to decide whether a file is a parameter file or a problem file.

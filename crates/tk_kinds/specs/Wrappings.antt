@@ -1,10 +1,10 @@
 -- Why a file is not a text that can be read.
 use Rattle.std.specs.Prelude.{ℕ, Bool, ◌||◌, ◌==◌, nat_le, List, [], ◌∷◌, Option, Some, None, if◌then◌else◌}
 use Rattle.std.specs.List.{list_any, starts_with}
-use Rattle.tk_diagnosis.specs.declared.foreign.Foreign.{Foreign}
-use Rattle.tk_diagnosis.specs.declared.wrapping.Wrapping.{Wrapping}
-use Rattle.tk_diagnosis.specs.declared.wrapping.Wrapping.TheVariants as files
-use Rattle.tk_diagnosis.specs.Foreign.{foreign_of}
+use Rattle.tk_kinds.specs.declared.foreign.Foreign.{Foreign}
+use Rattle.tk_kinds.specs.declared.wrapping.Wrapping.{Wrapping}
+use Rattle.tk_kinds.specs.declared.wrapping.Wrapping.TheVariants as files
+use Rattle.tk_kinds.specs.Foreign.{foreign_of}
 
 abbrev pub begins : List ℕ → List ℕ → Bool
 begins bytes text = starts_with (λ a b. a == b) text bytes

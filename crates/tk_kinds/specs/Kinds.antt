@@ -1,9 +1,9 @@
 -- The kind of a file in the format of another program.
 use Rattle.std.specs.Prelude.{ℕ, ◌&&◌, ◌==◌, List, ◌∷◌, if◌then◌else◌}
-use Rattle.tk_diagnosis.specs.declared.foreign.Foreign.{Foreign}
-use Rattle.tk_diagnosis.specs.declared.foreign.Foreign.TheVariants as files
-use Rattle.tk_diagnosis.specs.declared.kind.Kind.{Kind}
-use Rattle.tk_diagnosis.specs.declared.kind.Kind.TheVariants as kinds
+use Rattle.tk_kinds.specs.declared.foreign.Foreign.{Foreign}
+use Rattle.tk_kinds.specs.declared.foreign.Foreign.TheVariants as files
+use Rattle.tk_kinds.specs.declared.kind.Kind.{Kind}
+use Rattle.tk_kinds.specs.declared.kind.Kind.TheVariants as kinds
 
 -- the text without a byte order mark of UTF-8 at its front
 abbrev pub without_mark : List ℕ → List ℕ

@@ -1,7 +1,7 @@
 //! The kinds of files, and how the kind of a file is recognized.
 ghost use Rattle.std.specs.Prelude.{◌≡◌, IfSome};
-ghost use Rattle.tk_diagnosis.specs.Foreign.{foreign_of};
-ghost use Rattle.tk_diagnosis.specs.Kinds.{kind_of_foreign, without_mark};
+ghost use Rattle.tk_kinds.specs.Foreign.{foreign_of};
+ghost use Rattle.tk_kinds.specs.Kinds.{kind_of_foreign, without_mark};
 
 use crate::foreign::{Foreign, foreign_of};
 use crate::lines::{first_token, lines_of, split_word, value_behind};

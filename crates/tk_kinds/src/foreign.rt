@@ -1,13 +1,10 @@
 //! Files in the formats of other programs, recognized by their first two lines.
 ghost use Rattle.std.specs.Prelude.{◌≡◌, option_map};
 ghost use Rattle.tk_words.specs.Lex.{is_empty};
-ghost use Rattle.tk_diagnosis.specs.Foreign as Files;
-ghost use Rattle.tk_diagnosis.specs.Lines.{first_token};
+ghost use Rattle.tk_kinds.specs.Foreign as Files;
+ghost use Rattle.tk_kinds.specs.Lines.{first_token};
 
-use crate::lines::{split_line, split_token, split_word};
-use crate::place::natural;
-use crate::sentence::Sentence;
-use crate::spot::Here;
+use crate::lines::{natural, split_line, split_token, split_word};
 use tk_params::key_of;
 use tk_words::{blank, keyword_of};
 
@@ -226,44 +223,4 @@ fn is_list_byte(byte: u8) -> bool
     ensures { result ≡ Files.is_list_byte byte }
 {
     byte.is_ascii_digit() || blank(byte) || byte == b',' || byte == b'[' || byte == b']'
-}
-
-/// The diagnosis of a file that another program wrote.
-pub fn foreign_here<'a>(foreign: Foreign) -> Here<'a> {
-    let (read, remedy) = match foreign {
-        Foreign::Csv => (
-            "a CSV file: values separated by commas or semicolons",
-            "For a TSP, write its places as coordinates, as in examples/square.tsp. For a CVRP, convert a file with \
-            the columns name, x, y and demand, separated by commas: \
-            examples/csv-to-cvrp --capacity N FILE >NEW.vrp",
-        ),
-        Foreign::Edges => (
-            "an edge list of linkern: two cities from 0 and a length on each line",
-            "Convert it to a tour file: examples/convert-tour FILE >NEW.tour",
-        ),
-        Foreign::Concorde => (
-            "a Concorde solution: the number of cities, and then the cities from 0",
-            "Convert it to a tour file: examples/convert-tour FILE >NEW.tour",
-        ),
-        Foreign::Column => (
-            "a list of numbers, one on a line, without headers",
-            "If it is a tour that counts from 1, write the lines TYPE : TOUR and TOUR_SECTION before it. If it \
-            counts from 0, convert it: examples/convert-tour FILE >NEW.tour",
-        ),
-        Foreign::Row => (
-            "a list of numbers on one line, without headers",
-            "If it is a tour, put one number on each line, and convert the result to a tour file: \
-            tr -cs 0-9 '\\n' <FILE | examples/convert-tour --from list /dev/stdin >NEW.tour",
-        ),
-        Foreign::Rows => (
-            "numbers without headers",
-            "Write headers and the keyword of a section before them, as in examples/tri.tour for a tour, \
-            examples/tri.tsp for coordinates and examples/five.tsp for distances.",
-        ),
-    };
-    Here::advised(
-        "a TSPLIB file, whose lines begin with keywords such as TYPE and DIMENSION",
-        Sentence::of(read),
-        remedy,
-    )
 }

@@ -1,9 +1,9 @@
 -- Tokens that are not the numbers that are expected.
 use Rattle.std.specs.Prelude.{ℕ, Bool, ◌||◌, ◌==◌, List, [], ◌∷◌, codes, if◌then◌else◌}
 use Rattle.tk_words.specs.Words.{spells}
-use Rattle.tk_diagnosis.specs.declared.here.misread.Misread.{Misread}
-use Rattle.tk_diagnosis.specs.declared.here.misread.Misread.TheVariants as tokens
-use Rattle.tk_diagnosis.specs.Lines.{contains}
+use Rattle.tk_kinds.specs.declared.misread.Misread.{Misread}
+use Rattle.tk_kinds.specs.declared.misread.Misread.TheVariants as tokens
+use Rattle.tk_kinds.specs.Lines.{contains}
 
 abbrev pub without_sign : List ℕ → List ℕ
 without_sign [] = []

@@ -1,12 +1,12 @@
-//! The lines of a text, and the words of a line.
+//! The lines of a text, and the words, tokens and numbers of a line.
 ghost use Rattle.std.specs.Prelude.{◌≡◌, ◌≤◌, ◌+◌, ◌++◌, ◌==◌, drop, length, not, suc, if◌then◌else◌};
 ghost use Rattle.std.specs.Iterator.{at_most};
 ghost use Rattle.tk_words.specs.Texts.{line_behind};
 ghost use Rattle.tk_words.specs.Lex.{behind, front, is_blank, is_word_byte};
-ghost use Rattle.tk_diagnosis.specs.Lines.{after_front_word, after_line, after_token, first_line, first_token};
-ghost use Rattle.tk_diagnosis.specs.Lines.{front_word, is_solid};
+ghost use Rattle.tk_kinds.specs.Lines.{after_front_word, after_line, after_token, first_line, first_token};
+ghost use Rattle.tk_kinds.specs.Lines.{front_word, is_solid, number};
 
-use tk_words::{Keyword, blank, keyword_of, letter, word_byte};
+use tk_words::{Keyword, blank, integer, keyword_of, letter, word_byte};
 
 /// A line of a text or a part of it, with the number of the line, counted from 1.
 #[derive(Clone, Copy)]
@@ -265,5 +265,15 @@ pub fn header_line(text: &[u8], word: Keyword) -> u64 {
     match header(text, word) {
         Some(found) => found.line,
         None => 1,
+    }
+}
+
+/// The number that these bytes spell, if they spell an integer that is not negative.
+pub fn natural(bytes: &[u8]) -> Option<u64>
+    ensures { result ≡ number bytes.now }
+{
+    match integer(bytes) {
+        Some(number) if number >= 0 => Some(number as u64),
+        _ => None,
     }
 }

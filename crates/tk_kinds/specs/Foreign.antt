@@ -5,10 +5,10 @@ use Rattle.std.specs.Char.{is_ascii_digit}
 use Rattle.tk_words.specs.Lex.{behind, is_blank, is_empty}
 use Rattle.tk_words.specs.Words.{keyword_of}
 use Rattle.tk_params.specs.Keys.{key_of}
-use Rattle.tk_diagnosis.specs.declared.foreign.Foreign.{Foreign}
-use Rattle.tk_diagnosis.specs.declared.foreign.Foreign.TheVariants as files
-use Rattle.tk_diagnosis.specs.Lines.{after_front_word, after_line, after_token, contains, first_line}
-use Rattle.tk_diagnosis.specs.Lines.{first_token, front_word, number}
+use Rattle.tk_kinds.specs.declared.foreign.Foreign.{Foreign}
+use Rattle.tk_kinds.specs.declared.foreign.Foreign.TheVariants as files
+use Rattle.tk_kinds.specs.Lines.{after_front_word, after_line, after_token, contains, first_line}
+use Rattle.tk_kinds.specs.Lines.{first_token, front_word, number}
 
 -- a comma or a semicolon
 abbrev pub has_separator : List ℕ → Bool

@@ -1,0 +1,5 @@
+pub mod Foreign
+pub mod Kinds
+pub mod Lines
+pub mod Misread
+pub mod Wrappings
