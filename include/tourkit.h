@@ -35,6 +35,12 @@
 extern "C" {
 #endif
 
+/* The version of this header: 10,000 times the major number, plus 100 times the minor number, plus the patch. */
+#define TOURKIT_VERSION 100
+
+/* The version of the library, in the same form. */
+uint32_t tourkit_version(void);
+
 /* The status of a call. */
 enum {
     TOURKIT_DONE = 0,      /* done */
@@ -50,7 +56,7 @@ enum {
     TOURKIT_WRONG_TYPE = 16,    /* the problem is not a CVRP */
     TOURKIT_NOT_FOR_TYPE = 17,  /* the parameters contain a key that does not apply to a problem of this type */
     TOURKIT_TOO_LARGE = 18,     /* the problem has over 5,000 nodes, too many for a matrix */
-    TOURKIT_NO_PLACES = 19,     /* the problem has explicit weights instead of coordinates, so it cannot be drawn */
+    TOURKIT_NO_PLACES = 19,     /* the problem has explicit weights instead of coordinates */
     TOURKIT_WRONG_COUNT = 20,   /* the number of entries in a list of cities is not the number of cities of the problem */
     TOURKIT_OUT_OF_RANGE = 21,  /* the entry at `place` is not a city */
     TOURKIT_REPEATED_CITY = 22, /* the entry at `place` also occurs at an earlier place */
@@ -58,16 +64,18 @@ enum {
     TOURKIT_SERVED_TWICE = 24,  /* customer `place` also occurs earlier */
     TOURKIT_OVER_CAPACITY = 25, /* the load of route number `place` exceeds the capacity */
     TOURKIT_NOT_SERVED = 26,    /* customer `place` is on no route */
-    TOURKIT_WRONG_COST = 27     /* the routes do not have the cost that the solution states */
+    TOURKIT_WRONG_COST = 27,    /* the routes do not have the cost that the solution states */
+    TOURKIT_NO_WEIGHTS = 28     /* the problem has coordinates instead of explicit weights */
 };
 
-/* Distance types of cities with coordinates. */
+/* Distance types: those of cities with coordinates, and explicit weights. */
 enum {
     TOURKIT_EUC_2D = 0,
     TOURKIT_CEIL_2D = 1,
     TOURKIT_MAN_2D = 2,
     TOURKIT_MAX_2D = 3,
-    TOURKIT_ATT = 4
+    TOURKIT_ATT = 4,
+    TOURKIT_EXPLICIT = 5
 };
 
 /* The result of a call, apart from the text or array that it writes. */
@@ -81,6 +89,22 @@ typedef struct {
     size_t needed;      /* the number of bytes or numbers to write */
     size_t needed_file; /* like `needed`, for the second buffer of tourkit_solve, tourkit_solve_routes and tourkit_plot */
 } tourkit_answer;
+
+/* What is known of a problem, apart from its name. Coordinates are in units of 10^-9. Numbers that do not apply are 0. */
+typedef struct {
+    uint32_t dimension; /* the number of cities, or of nodes of a CVRP: the depot and the customers */
+    uint32_t distances; /* the distance type */
+    uint32_t depot;     /* the node of the depot of a CVRP */
+    uint32_t capacity;  /* the maximum load of a vehicle */
+    uint64_t demand;    /* the sum of the demands */
+    uint64_t vehicles;  /* a lower bound on the number of vehicles: the sum of the demands divided by the capacity, rounded up */
+    int64_t left;       /* the least x */
+    int64_t right;      /* the greatest x */
+    int64_t bottom;     /* the least y */
+    int64_t top;        /* the greatest y */
+    bool is_cvrp;       /* whether the problem is a CVRP; otherwise it is a TSP */
+    bool is_whole;      /* whether there are coordinates, and all of them are whole numbers */
+} tourkit_problem_info;
 
 /* The options of a search between routes. The program uses one run, ten trials for each node, seed 1, 12 candidates and
  * segments of 3 customers by default. */
@@ -143,7 +167,35 @@ void tourkit_solve_routes(const uint8_t *problem, size_t problem_size, const uin
 void tourkit_plot(const uint8_t *problem, size_t problem_size, const uint8_t *claim, size_t claim_size, bool has_claim,
                   uint8_t *out, size_t out_size, uint8_t *told, size_t told_size, tourkit_answer *answer);
 
-/* ---- the text of a problem in, arrays out */
+/* Finds out what is known of a problem: `info` gets the numbers, and `out` the name, of at most 1,024 bytes. If the text is
+ * rejected, `out` gets the message, and `info` is unchanged. */
+void tourkit_info(const uint8_t *problem, size_t problem_size, tourkit_problem_info *info,
+                  uint8_t *out, size_t out_size, tourkit_answer *answer);
+
+/* ---- texts in, arrays out */
+
+/* Writes the coordinates of n cities, in units of 10^-9: those of city c are at index c - 1. Both arrays must have n
+ * numbers. If the problem has explicit weights, `kind` is TOURKIT_NO_PLACES. */
+void tourkit_coordinates(const uint8_t *problem, size_t problem_size, int64_t *xs, size_t xs_count,
+                         int64_t *ys, size_t ys_count, tourkit_answer *answer);
+
+/* Writes the explicit weights of n cities: the lower triangle row by row without its diagonal, n (n - 1) / 2 numbers. If the
+ * problem has coordinates, `kind` is TOURKIT_NO_WEIGHTS. */
+void tourkit_weights(const uint8_t *problem, size_t problem_size, uint32_t *out, size_t out_count,
+                     tourkit_answer *answer);
+
+/* Writes the demands of the n nodes of a CVRP: that of node c is at index c - 1. If the problem is a TSP, `kind` is
+ * TOURKIT_WRONG_TYPE. */
+void tourkit_demands(const uint8_t *problem, size_t problem_size, uint32_t *out, size_t out_count,
+                     tourkit_answer *answer);
+
+/* Writes the numbers that a tour text lists. They need not be a tour. */
+void tourkit_tour_cities(const uint8_t *tour, size_t tour_size, uint32_t *out, size_t out_count, tourkit_answer *answer);
+
+/* Writes the nearest-neighbour tour of n cities: it goes from the city `start` to the nearest unvisited city again and again,
+ * and from several nearest ones to the one with the smallest number. If `start` is not a city, the call is rejected. */
+void tourkit_nearest_tour(const uint8_t *problem, size_t problem_size, uint32_t start, uint32_t *out, size_t out_count,
+                          tourkit_answer *answer);
 
 /* Checks an array as a tour of the cities of a problem. The status is TOURKIT_DONE with the length of the tour in
  * `length`, or TOURKIT_FOUND with the first fault in `kind` (20 to 22) and its place. */

@@ -12,6 +12,7 @@ All reading, computing and searching is done by `libtourkit.so`, which is part o
 
 from ._arrays import distances, near
 from ._checks import check, check_solution
+from ._library import require_version
 from ._matrix import matrix
 from ._pictures import Picture, plot
 from ._problem import CVRP, TSP, Problem
@@ -22,6 +23,7 @@ from ._solve import Interrupted, solve
 from ._verdicts import RouteVerdict, TourVerdict
 
 __version__ = "0.1.0"
+require_version(__version__)
 
 __all__ = [
     "CVRP",

@@ -3,15 +3,13 @@
 from __future__ import annotations
 
 import math
-import struct
-from typing import Callable, List, Union
+from typing import List, Union
 
 from ._arguments import within
-from ._library import NO_ROOM, Answer, output_slice
 from ._limits import CANDIDATE_LIMIT
 from ._problem import Problem, problem_of
-from ._room import room_for
 from ._text import Bytes, File
+from ._writing import filled
 
 
 def near(problem: Union[Problem, File, Bytes], k: int = 5) -> memoryview:
@@ -39,13 +37,6 @@ def distances(problem: Union[Problem, File, Bytes]) -> memoryview:
     asked = problem_of(problem)
     n = asked.size
     return shaped(filled("q", n * n, asked._write_distances), [n, n])
-
-
-def filled(letter: str, count: int, fill: Callable[..., Answer]) -> memoryview:
-    """The numbers that a call writes. If `count` is not their number, the call is repeated with the right one."""
-    numbers = memoryview(room_for(count * struct.calcsize(letter))).cast("B").cast(letter)
-    answer = fill(*output_slice(numbers))
-    return filled(letter, answer.needed, fill) if answer.status == NO_ROOM else numbers
 
 
 def near_shape(entries: int, k: int) -> List[int]:

@@ -39,6 +39,25 @@ class RouteOptions(ctypes.Structure):
     ]
 
 
+class ProblemInfo(ctypes.Structure):
+    """What is known of a problem, apart from its name: `tourkit_problem_info` of the header."""
+
+    _fields_ = [
+        ("dimension", ctypes.c_uint32),
+        ("distances", ctypes.c_uint32),
+        ("depot", ctypes.c_uint32),
+        ("capacity", ctypes.c_uint32),
+        ("demand", ctypes.c_uint64),
+        ("vehicles", ctypes.c_uint64),
+        ("left", ctypes.c_int64),
+        ("right", ctypes.c_int64),
+        ("bottom", ctypes.c_int64),
+        ("top", ctypes.c_int64),
+        ("is_cvrp", ctypes.c_bool),
+        ("is_whole", ctypes.c_bool),
+    ]
+
+
 SLICE = (ctypes.c_void_p, ctypes.c_size_t)
 NUMBER = (ctypes.c_uint32,)
 FLAG = (ctypes.c_bool,)
@@ -53,6 +72,12 @@ CALLS = {
     "tourkit_solve": 5 * SLICE,
     "tourkit_solve_routes": 2 * SLICE + STRUCT + 2 * SLICE,
     "tourkit_plot": 2 * SLICE + FLAG + 2 * SLICE,
+    "tourkit_info": SLICE + STRUCT + SLICE,
+    "tourkit_coordinates": 3 * SLICE,
+    "tourkit_weights": 2 * SLICE,
+    "tourkit_demands": 2 * SLICE,
+    "tourkit_tour_cities": 2 * SLICE,
+    "tourkit_nearest_tour": SLICE + NUMBER + SLICE,
     "tourkit_distances": 2 * SLICE,
     "tourkit_check_cities": 2 * SLICE,
     "tourkit_near_cities": SLICE + NUMBER + SLICE,
@@ -74,10 +99,20 @@ def load() -> ctypes.CDLL:
         export = getattr(loaded, name)
         export.argtypes = (*takes, ctypes.POINTER(Answer))
         export.restype = None
+    loaded.tourkit_version.argtypes, loaded.tourkit_version.restype = (), ctypes.c_uint32
     return loaded
 
 
 LIBRARY = load()
+
+
+def require_version(version: str) -> None:
+    """Checks that the library has the version of the package."""
+    major, minor, patch = map(int, version.split("."))
+    found: int = LIBRARY.tourkit_version()
+    if found != 10_000 * major + 100 * minor + patch:
+        raise ImportError(f"tourkit is of version {version}, but its library is of version {found // 10_000}.{found // 100 % 100}.{found % 100}")
+
 
 # An address for buffers without items, since pointers must not be null.
 NOTHING = (ctypes.c_uint64 * 1)()

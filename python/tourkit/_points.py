@@ -10,7 +10,7 @@ from ._arguments import items_of, text_argument
 from ._library import input_slice
 from ._limits import CITY_LIMIT, COORDINATE_LIMIT
 
-# The distance types, by their numbers in `tourkit.h`.
+# The distance types of cities with coordinates, by their numbers in `tourkit.h`.
 KINDS = {"EUC_2D": 0, "CEIL_2D": 1, "MAN_2D": 2, "MAX_2D": 3, "ATT": 4}
 
 # Coordinates are exact in units of 10^-9.
@@ -60,11 +60,6 @@ def checked_units(axis: str, city: int, coordinate: Any) -> int:
         raise ValueError(f"points: {axis} of city {city} is {error}") from None
 
 
-def units_of(word: bytes) -> int:
-    """The coordinate that a word of a problem file states, in units."""
-    return int(word) * SCALE if word.isdigit() else units(word.decode())
-
-
 def decimal_of(number: int) -> str:
     """A number of units as a decimal number."""
     whole, part = divmod(abs(number), SCALE)
@@ -78,12 +73,11 @@ class Points:
 
     form = "points"
 
-    def __init__(self, pairs: Sequence[Tuple[int, int]], kind: str) -> None:
-        """The cities at these pairs of coordinates, in units."""
+    def __init__(self, xs: bytes, ys: bytes, kind: str) -> None:
+        """The cities with these coordinates, which are 64-bit integers, in units."""
         self.kind = kind
-        self.size = len(pairs)
-        self._xs = array("q", [x for x, _ in pairs]).tobytes()
-        self._ys = array("q", [y for _, y in pairs]).tobytes()
+        self.size = len(xs) // 8
+        self._xs, self._ys = xs, ys
 
     @classmethod
     def given(cls, points: Iterable[Sequence[Any]], kind: str) -> Points:
@@ -93,17 +87,8 @@ class Points:
         pairs = pairs_of(items_of("points", points, "a list of pairs of coordinates"))
         if not 2 <= len(pairs) <= CITY_LIMIT:
             raise ValueError(f"points must be 2 to {CITY_LIMIT:,} cities, not {len(pairs):,}")
-        return cls(pairs, kind)
-
-    @classmethod
-    def read(cls, words: List[bytes], kind: str) -> Points:
-        """The cities of a section: the number of each, and its coordinates. Cities may be in any order."""
-        rows = sorted(zip(map(int, words[::3]), words[1::3], words[2::3]))
-        return cls([(units_of(x), units_of(y)) for _, x, y in rows], kind)
-
-    def coordinates(self) -> Tuple[List[int], List[int]]:
-        """The coordinates of each city in units, at the index of its number."""
-        return [0, *array("q", self._xs)], [0, *array("q", self._ys)]
+        xs, ys = array("q", [x for x, _ in pairs]), array("q", [y for _, y in pairs])
+        return cls(xs.tobytes(), ys.tobytes(), kind)
 
     def pairs(self) -> Tuple[Tuple[float, float], ...]:
         """The coordinates, as the nearest floats."""

@@ -3,27 +3,23 @@
 from __future__ import annotations
 
 import functools
-import math
 import re
 from typing import Any, Dict, Iterable, Optional, Sequence, Tuple, Type, TypeVar, Union, overload
 
 from ._arguments import text_argument
-from ._contents import Contents, kind_in
+from ._info import NAME_LIMIT, Info, read_info
 from ._library import REFUSED, Answer, call, output_slice
 from ._limits import CITY_LIMIT
 from ._points import Points
 from ._refused import Refused
 from ._room import room_for
-from ._service import Service, given_service, read_service
+from ._service import Service, given_service
 from ._text import Bytes, File, Text, text_of
 from ._weights import Matrix, Weights
-from ._writing import LINE, write_texts
+from ._writing import LINE, filled, write_texts
 
 # The line of a problem file that states the number of cities.
 DIMENSION = re.compile(rb"^[ \t\r]*DIMENSION[ \t\r]*:?[ \t\r]*\+?(\d{1,18})\b", re.IGNORECASE | re.MULTILINE)
-
-# The maximum number of bytes of a name.
-NAME_LIMIT = 1024
 
 # The number of bytes that are searched for the DIMENSION line. A search of the whole text would take long.
 HEAD = 1 << 16
@@ -48,10 +44,10 @@ class Problem:
     def __new__(cls: Type[P], given: Union[File, Bytes]) -> P:
         """The problem of a file or a text, which must be of the class that is called."""
         text = text_of(given, "problem")
-        size = problem_of_text(text).size
-        kind: Type[Problem] = CVRP if kind_in(text.data) == "cvrp" else TSP
+        info = problem_of_text(text)._info
+        kind: Type[Problem] = CVRP if info.kind == "cvrp" else TSP
         found = object.__new__(kind)
-        found._given, found.size = text, size
+        found._given, found._info = text, info
         if isinstance(found, cls):
             return found
         raise Refused(f"{text.where}: not a {cls.__name__}", None, "WrongType", None, text.file)
@@ -182,21 +178,20 @@ class Problem:
         """The name. U+FFFD replaces bytes that are not UTF-8."""
         if not isinstance(self._given, Text):
             return self._name
-        return self._contents.value(b"NAME").decode(errors="replace") or "Unnamed"
+        return self._info.name
 
     @property
     def kind(self) -> str:
         """`"tsp"` or `"cvrp"`."""
         if not isinstance(self._given, Text):
             return "cvrp" if self._given_service else "tsp"
-        self._ensure_read()
-        return kind_in(self.text)
+        return self._info.kind
 
     @property
     def distance_type(self) -> str:
         """The distance type: EUC_2D, CEIL_2D, MAN_2D, MAX_2D or ATT for cities with coordinates, otherwise EXPLICIT."""
         if isinstance(self._given, Text):
-            return self._contents.word(b"EDGE_WEIGHT_TYPE")
+            return self._info.distance_type
         return self._given.kind
 
     @functools.cached_property
@@ -231,7 +226,7 @@ class Problem:
     @functools.cached_property
     def size(self) -> int:
         """The number of cities."""
-        return self._read() if isinstance(self._given, Text) else self._given.size
+        return self._info.size if isinstance(self._given, Text) else self._given.size
 
     @property
     def text(self) -> bytes:
@@ -253,38 +248,38 @@ class Problem:
         return Text(f"{header}{self._given.sections()}{service}EOF\n".encode(), "problem")
 
     @functools.cached_property
-    def _contents(self) -> Contents:
-        """The parts of the text, after the library has accepted it."""
-        self._ensure_read()
-        return Contents(self.text)
+    def _info(self) -> Info:
+        """What the library knows of the problem of a text."""
+        return read_info(self._source)
 
     @functools.cached_property
     def _points(self) -> Optional[Points]:
         """The coordinates; `None` if the distances are explicit."""
         if not isinstance(self._given, Text):
             return self._given if isinstance(self._given, Points) else None
-        explicit = self.distance_type == "EXPLICIT"
-        return None if explicit else Points.read(self._contents.numbers(b"NODE_COORD_SECTION"), self.distance_type)
+        if self.distance_type == Weights.kind:
+            return None
+        xs, ys = (memoryview(room_for(8 * self.size)) for _ in range(2))
+        self._accepted(call("tourkit_coordinates", *self._source.words, *output_slice(xs.cast("q")), *output_slice(ys.cast("q"))))
+        return Points(bytes(xs), bytes(ys), self.distance_type)
 
     @functools.cached_property
     def _service(self) -> Optional[Service]:
         """The demands, the capacity and the depot of a CVRP; `None` for a TSP."""
         if not isinstance(self._given, Text):
             return self._given_service
-        return read_service(self._contents) if self.kind == "cvrp" else None
+        if self.kind == "tsp":
+            return None
+        demands = filled("I", self.size, lambda *out: self._accepted(call("tourkit_demands", *self._source.words, *out)))
+        return Service(tuple(demands), self._info.capacity, self._info.depot)
 
-    def _ensure_read(self) -> None:
-        """Lets the library read the text, unless it has already."""
-        if "size" not in vars(self):
-            self.size = self._read()
-
-    def _read(self) -> int:
-        """Lets the library read the text, and returns the number of cities."""
-        return math.isqrt(self._write_distances(*output_slice(b"")).needed)
+    def _nearest_tour(self, start: int) -> memoryview:
+        """The nearest-neighbour tour from this city, as 32-bit integers."""
+        return filled("I", self.size, lambda *out: self._accepted(call("tourkit_nearest_tour", *self._source.words, start, *out)))
 
     def _guess_size(self) -> int:
         """An estimate of the number of cities, which may be wrong."""
-        if not isinstance(self._given, Text):
+        if not isinstance(self._given, Text) or "_info" in vars(self):
             return self.size
         found = DIMENSION.search(self.text, 0, HEAD)
         return min(int(found[1]), CITY_LIMIT) if found else 1

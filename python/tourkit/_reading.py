@@ -3,12 +3,12 @@
 from __future__ import annotations
 
 import re
-from typing import Iterable, Iterator, List, Union
+from typing import List, Union
 
-from ._contents import Contents
 from ._files import CVRP, TSP
+from ._library import call
 from ._text import Bytes, File, Text, text_of
-from ._writing import LINE, write_texts
+from ._writing import LINE, filled, write_texts
 
 # The line of a route in an accepted solution.
 ROUTE = re.compile(rb"^[ \t\r]*Route\b[^:\n]*:(.*)$", re.IGNORECASE | re.MULTILINE)
@@ -21,7 +21,7 @@ def read_tour(file: Union[File, Bytes]) -> List[int]:
         [1, 2, 2, 4]
     """
     text = accepted(text_of(file, "tour", "file"), "tourkit_check", TSP)
-    return list(cities_in(Contents(text).numbers(b"TOUR_SECTION")))
+    return filled("I", 0, lambda *out: call("tourkit_tour_cities", *text.words, *out)).tolist()
 
 
 def read_solution(file: Union[File, Bytes]) -> List[List[int]]:
@@ -31,20 +31,11 @@ def read_solution(file: Union[File, Bytes]) -> List[List[int]]:
         [2, 20, 21, 18, 28, 9, 5, 27]
     """
     text = accepted(text_of(file, "solution", "file"), "tourkit_checksol", CVRP)
-    return [list(map(int, route.split())) for route in ROUTE.findall(text)]
+    return [list(map(int, route.split())) for route in ROUTE.findall(text.data)]
 
 
-def accepted(text: Text, name: str, problem: bytes) -> bytes:
-    """The bytes of a text that a function of the library reads together with a problem. Raises `Refused` if it has a fault."""
+def accepted(text: Text, name: str, problem: bytes) -> Text:
+    """A text that a function of the library reads together with a problem. Raises `Refused` if it has a fault."""
     texts = [Text(problem, "problem"), text]
     write_texts(name, texts, [word for part in texts for word in part.words], [LINE])
-    return text.data
-
-
-def cities_in(words: Iterable[bytes]) -> Iterator[int]:
-    """The cities of a tour section, which ends at -1, at EOF or with the text."""
-    for word in words:
-        city = -1 if word[:1].isalpha() else int(word)
-        if city == -1:
-            return
-        yield city
+    return text

@@ -9,7 +9,6 @@ from typing import Any, Dict, Optional, Tuple, Union
 
 from ._claims import tour_text
 from ._library import RouteOptions
-from ._nearest import NearestTours, TooSlow
 from ._problem import Problem
 from ._results import Routes, RouteStart, Tour, result_of
 from ._text import Text
@@ -60,7 +59,6 @@ class ByParameters:
 
     def __init__(self, problem: Problem, keys: Dict[str, Any]) -> None:
         self._problem, self._keys = problem, keys
-        self._nearest: Optional[NearestTours] = None
 
     def can_split(self, runs: int, jobs: int, start: Optional[Text]) -> bool:
         """Whether each run can be made by itself, and whether this is worthwhile."""
@@ -83,8 +81,7 @@ class ByParameters:
         before = (run - 1) % self._problem.size
         if before == 0 or not self._needs_tours(start):
             return start
-        self._nearest = self._nearest or NearestTours(self._problem)
-        return Text(tour_text(self._nearest.tour(before + 1), "initial_tour"), "tour")
+        return Text(tour_text(self._problem._nearest_tour(before + 1), "initial_tour"), "tour")
 
     def found(self, runs: int, seed: int, start: Optional[Text]) -> Found:
         """The result of some runs, by one call of the library. The parameters must contain file names, but the library ignores them."""
@@ -157,7 +154,7 @@ class Search:
                 self._make_each(seed, start)
             else:
                 self._make_all(seed, start)
-        except (TooSlow, MemoryError):
+        except MemoryError:
             self._pool.end(waits=False)
             self._pool = Pool[Result](self._jobs)
             self._found, self._best = {}, (0, best)
@@ -178,7 +175,7 @@ class Search:
         for run in range(1, self._runs + 1):
             if run - len(self._found) > AHEAD * self._jobs:
                 self._take(*self._pool.result())
-            self._pool.start(partial(self._searched, run, 1, seed + run - 1, self._how.start_of(run, start)))
+            self._pool.start(partial(self._searched, run, 1, seed + run - 1, start))
         while len(self._found) < self._runs:
             self._take(*self._pool.result())
 
@@ -192,4 +189,4 @@ class Search:
 
     def _searched(self, run: int, runs: int, seed: int, start: Optional[Text]) -> Result:
         """Makes some runs by one call of the library. Returns the number of the first one and the result."""
-        return run, self._how.found(runs, seed, start)
+        return run, self._how.found(runs, seed, self._how.start_of(run, start))

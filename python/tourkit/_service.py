@@ -5,7 +5,6 @@ from __future__ import annotations
 from typing import Iterable, NamedTuple, Optional, Tuple
 
 from ._arguments import integers, items_of, raise_unfit, within
-from ._contents import Contents
 from ._limits import CAPACITY_LIMIT, TABLE_LIMIT
 
 
@@ -40,11 +39,3 @@ def given_service(demands: Optional[Iterable[int]], capacity: Optional[int], dep
     if numbers[home - 1]:
         raise ValueError(f"demands: demand of city {home}, the depot, is {numbers[home - 1]:,}, not 0")
     return Service(tuple(numbers), most, home)
-
-
-def read_service(contents: Contents) -> Service:
-    """The demands, the capacity and the depot in the file of a CVRP. Cities may be in any order."""
-    words = contents.numbers(b"DEMAND_SECTION")
-    rows = sorted(zip(map(int, words[::2]), map(int, words[1::2])))
-    depot = int(contents.numbers(b"DEPOT_SECTION")[0])
-    return Service(tuple(demand for _, demand in rows), int(contents.word(b"CAPACITY")), depot)

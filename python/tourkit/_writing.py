@@ -1,10 +1,11 @@
-"""Calls of functions that write texts."""
+"""Calls of functions that write texts or arrays."""
 
 from __future__ import annotations
 
-from typing import Any, List, Sequence, Tuple
+import struct
+from typing import Any, Callable, List, Sequence, Tuple
 
-from ._library import REFUSED, Answer, call, output_slice
+from ._library import NO_ROOM, REFUSED, Answer, call, output_slice
 from ._refused import refused
 from ._room import first_bytes, room_for
 from ._text import Text
@@ -26,3 +27,10 @@ def write_texts(
     if any(count > size for count, size in zip(needed, sizes)):
         return write_texts(name, texts, words, [max(pair) for pair in zip(needed, sizes)], message)
     return answer, [first_bytes(room, count) for room, count in zip(rooms, needed)]
+
+
+def filled(letter: str, count: int, fill: Callable[..., Answer]) -> memoryview:
+    """The numbers that a call writes. If `count` is not their number, the call is repeated with the right one."""
+    numbers = memoryview(room_for(count * struct.calcsize(letter))).cast("B").cast(letter)
+    answer = fill(*output_slice(numbers))
+    return filled(letter, answer.needed, fill) if answer.status == NO_ROOM else numbers

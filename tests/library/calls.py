@@ -14,7 +14,7 @@ import threading
 
 import tourkit
 from tourkit import _limits
-from tourkit._library import CALLS, Answer, RouteOptions, output_slice
+from tourkit._library import CALLS, Answer, ProblemInfo, RouteOptions, output_slice
 from tourkit._text import text_of
 from tourkit._writing import write_texts
 
@@ -44,7 +44,8 @@ def error(kind, call, *arguments, **options):
 def try_header():
     """The functions and the structs of the package are those of the C header."""
     header = (pathlib.Path(__file__).resolve().parents[2] / "include/tourkit.h").read_text()
-    known = {"uint32_t": ctypes.c_uint32, "uint64_t": ctypes.c_uint64, "size_t": ctypes.c_size_t, "bool": ctypes.c_bool}
+    numbers = {f"{name}_t": getattr(ctypes, f"c_{name}") for name in ("uint32", "uint64", "int64")}
+    known = {**numbers, "size_t": ctypes.c_size_t, "bool": ctypes.c_bool}
     declared = {}
     for name, parameters in re.findall(r"void (tourkit_\w+)\(([^)]*)\);", header):
         given = [word.strip() for word in parameters.split(",")]
@@ -52,7 +53,8 @@ def try_header():
         declared[name] = tuple(ctypes.c_void_p if "*" in word else known[word.split()[0]] for word in given)
     assert declared == CALLS, "other calls"
     structs = {name: body for body, name in re.findall(r"typedef struct \{(.*?)\} (\w+);", header, re.DOTALL)}
-    for name, ours in {"tourkit_answer": Answer, "tourkit_route_options": RouteOptions}.items():
+    ours_by_name = {"tourkit_answer": Answer, "tourkit_problem_info": ProblemInfo, "tourkit_route_options": RouteOptions}
+    for name, ours in ours_by_name.items():
         fields = re.findall(r"(?m)^ +(\w+) (\w+);", structs.pop(name))
         assert [(field, known[kind]) for kind, field in fields] == ours._fields_, fields
     assert not structs, structs

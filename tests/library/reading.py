@@ -10,6 +10,7 @@ sys.path.append(str(TESTS / "readers"))
 import problems
 import texts
 import tourkit
+from tourkit import _library
 
 # The ends of tour files, and solution files, in an unusual form.
 ENDS = [b"", b"\n", b" : +1 02 3", b"\n1\n2\n-1 -1\nEOF\nTOUR_SECTION\n5\n", b"\n1 2 -01\nNAME : 7\n", b"\n1 4294967295 eof\nNAME : 8\n9\n",
@@ -73,10 +74,20 @@ def try_files():
 
 
 def try_version():
-    """The version of the package is that of the library and of the program."""
+    """The version of the package is that of the library and of the program. The package rejects a library of another version."""
     version = tourkit.__version__
+    major, minor, patch = map(int, version.split("."))
     assert f'VERSION = "{version}"\n' in (TESTS.parent / "build").read_text(), version
     assert f'.version("{version}")' in (TESTS.parent / "crates/tk_command_line/src/command.rt").read_text(), version
+    number = 10_000 * major + 100 * minor + patch
+    assert f"\n#define TOURKIT_VERSION {number}\n" in (TESTS.parent / "include/tourkit.h").read_text(), number
+    for other in (f"{major}.{minor}.{patch + 1}", f"{major + 1}.{minor}.{patch}"):
+        try:
+            _library.require_version(other)
+        except ImportError as error:
+            assert str(error) == f"tourkit is of version {other}, but its library is of version {version}", error
+        else:
+            raise AssertionError(f"version {other} was accepted")
 
 
 def tests():

@@ -56,6 +56,9 @@ class Recorder:
 
 LIBRARY = _library.LIBRARY
 
+# The functions that the package does not call. It takes explicit weights as all distances.
+UNUSED = {"tourkit_weights"}
+
 
 def make_each_call():
     """Calls each function, with texts and arrays that can be changed."""
@@ -72,6 +75,10 @@ def make_each_call():
     plan = bytearray(pathlib.Path("bakery-plan.sol").read_bytes())
     tourkit.check_solution("bakery.vrp", plan)
     tourkit.solve("bakery.vrp", trials=1, initial_solution=plan)
+    for problem in map(tourkit.Problem, ("bakery.vrp", text)):
+        assert problem.points and problem.weights is None and bool(problem.demands) == (problem.kind == "cvrp")
+    tourkit.solve(text, runs=2, jobs=2)
+    tourkit.read_tour(bytearray(found.text))
     with contextlib.suppress(tourkit.Refused):
         tourkit.near(bytearray(b"EOF\n"))
 
@@ -92,7 +99,7 @@ def try_inputs_are_bytes():
         make_each_call()
     finally:
         _library.LIBRARY = LIBRARY
-    assert {name for name, _ in recorder.made} == set(reads), "some calls were not made"
+    assert {name for name, _ in recorder.made} == set(reads) - UNUSED, "other calls were made"
     for name, arguments in recorder.made:
         for place in reads[name]:
             given = arguments[place]

@@ -15,7 +15,7 @@ import time
 import cases
 import safety
 import tourkit
-from tourkit import _nearest, _search
+from tourkit import _search
 
 RUN = "run {run}: start {start}, best {best}, trials {trials}, moves {moves}, tests {tests}, swaps {swaps}\n"
 MOST_SECONDS = 0.5  # until an interrupt ends a search
@@ -129,14 +129,13 @@ search, search_routes, LONG = _search.search, _search.search_routes, _search.LON
 
 
 def try_starts():
-    """Nearest-neighbour tours are those of the library: from each city of a small problem, and from some of a large one."""
+    """Nearest-neighbour tours are those that the runs of a search start from: of each city of a small problem, and of some of a large one."""
     places = random.Random(3)
     large = tourkit.Problem.from_points([(places.randrange(10**5), places.randrange(10**5)) for _ in range(10_000)])
     for problem, cities in ((tourkit.Problem("board.tsp"), range(1, 455)), (large, [1])):
-        tours = _nearest.NearestTours(problem)
         wanted = tourkit.solve(problem, runs=len(cities), trials=1).runs
         for run, city in zip(wanted, cities):
-            found = tourkit.check(problem, tours.tour(city))
+            found = tourkit.check(problem, problem._nearest_tour(city))
             assert found and found.length == run.start, (problem, city)
 
 
@@ -171,7 +170,7 @@ def try_too_few_threads():
     def fail(*_, **__):
         raise error
 
-    for error, module, name in ((RuntimeError("no thread"), _thread, "start_new_thread"), (MemoryError(), _search, "NearestTours")):
+    for error, module, name in ((RuntimeError("no thread"), _thread, "start_new_thread"), (MemoryError(), tourkit.Problem, "_nearest_tour")):
         before = getattr(module, name)
         setattr(module, name, fail)
         try:

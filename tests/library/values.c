@@ -10,6 +10,14 @@
 #define PROBLEM "TYPE: TSP\nDIMENSION: 3\nEDGE_WEIGHT_TYPE: EUC_2D\nNODE_COORD_SECTION\n1 0 0\n2 3 0\n3 3 4\nEOF\n"
 #define TOUR "TYPE: TOUR\nDIMENSION: 3\nTOUR_SECTION\n1\n2\n3\n-1\nEOF\n"
 
+/* Coordinates that are not whole, and a depot that is not the first node. */
+#define PLACES "NAME: far a\nTYPE: CVRP\nDIMENSION: 4\nCAPACITY: 2\nEDGE_WEIGHT_TYPE: ATT\nNODE_COORD_SECTION\n" \
+    "3 -2.5 4\n1 0 0\n2 3 1e-9\n4 7e-9 -4\nDEMAND_SECTION\n1 1\n2 0\n3 2\n4 1\nDEPOT_SECTION\n2\n-1\nEOF\n"
+
+#define TABLE "TYPE: TSP\nDIMENSION: 3\nEDGE_WEIGHT_TYPE: EXPLICIT\nEDGE_WEIGHT_FORMAT: UPPER_ROW\nEDGE_WEIGHT_SECTION\n5 6 7\n"
+
+#define EQUAL_WEIGHTS "TYPE: TSP\nDIMENSION: 4\nEDGE_WEIGHT_TYPE: EXPLICIT\nEDGE_WEIGHT_FORMAT: UPPER_ROW\nEDGE_WEIGHT_SECTION\n1 1 1 1 1 1\n"
+
 static tourkit_answer answer;
 static uint8_t out[256], file[2048];
 static int passed, failed;
@@ -67,6 +75,70 @@ static void arrays(void) {
     expect(answer.status == TOURKIT_DONE && answer.length == 12, "a tour as an array");
     tourkit_check_cities(TEXT(PROBLEM), ARRAY(twice), &answer);
     expect(answer.status == TOURKIT_FOUND && answer.kind == TOURKIT_REPEATED_CITY && answer.place == 3, "a city twice");
+}
+
+/* Whether two arrays of numbers are equal. */
+#define EQUAL(array, other) !memcmp(array, other, sizeof(array))
+
+static void contents(void) {
+    static const int64_t eastings[4] = {0, 3000000000, -2500000000, 7}, northings[4] = {0, 1, 4000000000, -4000000000};
+    static const uint32_t loads[4] = {1, 0, 2, 1}, lower[3] = {5, 6, 7};
+    int64_t xs[4] = {0}, ys[4] = {0};
+    uint32_t numbers[4] = {9, 9, 9, 9};
+    tourkit_coordinates(TEXT(PLACES), ARRAY(xs), ys, 3, &answer);
+    expect(answer.status == TOURKIT_NO_ROOM && answer.needed == 4 && xs[1] == 0, "coordinates for which there is no room");
+    tourkit_coordinates(TEXT(PLACES), ARRAY(xs), ARRAY(ys), &answer);
+    expect(answer.status == TOURKIT_DONE && EQUAL(xs, eastings) && EQUAL(ys, northings), "coordinates");
+    tourkit_coordinates(TEXT(TABLE), ARRAY(xs), ARRAY(ys), &answer);
+    expect(is_fault(0, 0, TOURKIT_NO_PLACES) && EQUAL(xs, eastings), "coordinates of explicit weights");
+    tourkit_demands(TEXT(PLACES), ARRAY(numbers), &answer);
+    expect(answer.status == TOURKIT_DONE && EQUAL(numbers, loads), "demands");
+    tourkit_demands(TEXT(PROBLEM), ARRAY(numbers), &answer);
+    expect(is_fault(0, 0, TOURKIT_WRONG_TYPE) && EQUAL(numbers, loads), "demands of a TSP");
+    tourkit_weights(TEXT(TABLE), numbers, 3, &answer);
+    expect(answer.status == TOURKIT_DONE && EQUAL(lower, numbers), "explicit weights");
+    tourkit_weights(TEXT(PROBLEM), numbers, 3, &answer);
+    expect(is_fault(0, 0, TOURKIT_NO_WEIGHTS) && EQUAL(lower, numbers), "explicit weights of coordinates");
+    tourkit_weights(TEXT("TYPE: TSP\nTYPE"), numbers, 3, &answer);
+    expect(is_fault(1, 2, 2) && answer.needed == 0, "explicit weights of a header twice");
+}
+
+/* What is known of a problem, whose name has these bytes. */
+static void known(void) {
+    tourkit_problem_info info;
+    tourkit_info(TEXT(PLACES), &info, out, 3, &answer);
+    expect(answer.status == TOURKIT_DONE && answer.needed == 5 && begins(out, "far"), "a name");
+    expect(info.dimension == 4 && info.distances == TOURKIT_ATT && info.is_cvrp && !info.is_whole, "the types of a CVRP");
+    expect(info.depot == 2 && info.capacity == 2 && info.demand == 4 && info.vehicles == 2, "the routing data of a CVRP");
+    expect(info.left == -2500000000 && info.right == 3000000000 && info.bottom == -4000000000 && info.top == 4000000000, "bounds");
+    tourkit_info(TEXT(TABLE), &info, ARRAY(out), &answer);
+    expect(answer.needed == 7 && begins(out, "Unnamed") && info.dimension == 3 && info.distances == TOURKIT_EXPLICIT, "a table");
+    expect(!info.is_cvrp && !info.is_whole && !info.depot && !info.capacity && !info.demand && !info.vehicles, "no routing data");
+    expect(!info.left && !info.right && !info.bottom && !info.top, "no bounds");
+    tourkit_info(TEXT(PROBLEM), &info, ARRAY(out), &answer);
+    expect(info.is_whole && info.distances == TOURKIT_EUC_2D && info.top == 4000000000, "whole coordinates");
+    tourkit_info(TEXT(TOUR), &info, ARRAY(out), &answer);
+    expect(is_fault(1, 1, 4) && begins(out, "problem text: 1: 4 Unsupported") && info.dimension == 3, "a text that is not a problem");
+    expect(tourkit_version() == TOURKIT_VERSION, "the version");
+}
+
+static void tours(void) {
+    static const uint32_t listed[5] = {2, 9, 2, 0, 4294967295}, from_third[3] = {3, 2, 1}, ties[4] = {4, 1, 2, 3};
+    uint32_t cities[5], three[3], four[4];
+    tourkit_tour_cities(TEXT("TYPE: TOUR\nTOUR_SECTION\n2 9 2 0 4294967295 -1\n"), ARRAY(cities), &answer);
+    expect(answer.status == TOURKIT_DONE && answer.needed == 5 && EQUAL(cities, listed), "the numbers that a tour text lists");
+    tourkit_tour_cities(TEXT(TOUR), ARRAY(cities), &answer);
+    expect(answer.status == TOURKIT_NO_ROOM && answer.needed == 3 && EQUAL(cities, listed), "cities for which there is no room");
+    tourkit_tour_cities(TEXT("TYPE: TSP\n"), ARRAY(cities), &answer);
+    expect(is_fault(1, 1, 4) && EQUAL(cities, listed), "a text that is not a tour");
+    tourkit_nearest_tour(TEXT(PROBLEM), 3, ARRAY(three), &answer);
+    expect(answer.status == TOURKIT_DONE && answer.needed == 3 && EQUAL(three, from_third), "a nearest-neighbour tour");
+    tourkit_nearest_tour(TEXT(EQUAL_WEIGHTS), 4, ARRAY(four), &answer);
+    expect(answer.status == TOURKIT_DONE && EQUAL(four, ties), "a nearest-neighbour tour by numbers");
+    tourkit_nearest_tour(TEXT(PROBLEM), 4, ARRAY(three), &answer);
+    expect(is_fault(0, 0, 0) && EQUAL(three, from_third), "a nearest-neighbour tour of no city");
+    tourkit_nearest_tour(TEXT(PROBLEM), 0, ARRAY(three), &answer);
+    expect(is_fault(0, 0, 0), "a nearest-neighbour tour of city 0");
 }
 
 static void searches(void) {
@@ -175,6 +247,9 @@ int main(void) {
     checks();
     lists();
     arrays();
+    contents();
+    known();
+    tours();
     searches();
     routes();
     limits();

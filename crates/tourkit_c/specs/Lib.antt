@@ -1,11 +1,14 @@
 pub mod Answers
 pub mod Arrays
 pub mod Checks
+pub mod Contents
 pub mod HandedOut
+pub mod InfoStruct
 pub mod Outcomes
 pub mod Plotted
 pub mod Points
 pub mod Solved
 pub mod SolvedRoutes
 pub mod Texts
+pub mod Tours
 pub mod Weights

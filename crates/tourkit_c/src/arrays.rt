@@ -20,7 +20,7 @@ use tk_near::ListLength;
 use tk_text::{FromRead, Problem, read_problem};
 
 /// The problem of a text, or the result of the call if the text is rejected or memory runs out.
-fn problem_of(alloc: Global, text: &[u8]) -> Result<Problem, Answer>
+pub(crate) fn problem_of(alloc: Global, text: &[u8]) -> Result<Problem, Answer>
     ensures ok { IfOk result (λ p. TextSays problem_texts text.now (problem_is p)) }
     ensures failure { IfErr result (IsFailure 0) }
     ensures refused { IfErr result (λ answer. answer.status ≡ 2 → IsFaulty problem_texts 1 text.now answer) }
@@ -32,7 +32,7 @@ fn problem_of(alloc: Global, text: &[u8]) -> Result<Problem, Answer>
 }
 
 /// The distances of a problem.
-fn table_of(problem: &Problem) -> Table<'_>
+pub(crate) fn table_of(problem: &Problem) -> Table<'_>
     ensures size { table_size result ≡ problem.now.n }
     ensures distances { table_distance result ≡ read_distance (weights_are problem.now.weights) }
 {

@@ -8,11 +8,15 @@
 mod answer;
 mod arrays;
 mod check;
+mod contents;
 mod hand_out;
+mod info;
 mod lists;
 mod plot;
 mod points;
 mod solve;
 mod solve_routes;
 mod tables;
+mod tours;
+mod version;
 mod weights;
