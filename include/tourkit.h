@@ -78,10 +78,18 @@ enum {
     TOURKIT_EXPLICIT = 5
 };
 
+/* The kinds of texts in `text`, after tourkit_explain. */
+enum {
+    TOURKIT_PROBLEM = 1,
+    TOURKIT_TOUR = 2,
+    TOURKIT_SOLUTION = 3,
+    TOURKIT_PARAMETERS = 4
+};
+
 /* The result of a call, apart from the text or array that it writes. */
 typedef struct {
     uint32_t status;    /* one of the statuses above */
-    uint32_t text;      /* the number of the rejected text, from 1; 0 for none */
+    uint32_t text;      /* the number of the rejected text, from 1, or the kind of an explained text; 0 for none */
     uint64_t line;      /* the line of the fault, from 1; 0 for none */
     uint32_t kind;      /* the number of the fault; 0 for none */
     uint32_t place;     /* the place of the fault in a tour, from 1, or the number of the route or customer; 0 for none */
@@ -171,6 +179,13 @@ void tourkit_plot(const uint8_t *problem, size_t problem_size, const uint8_t *cl
  * rejected, `out` gets the message, and `info` is unchanged. */
 void tourkit_info(const uint8_t *problem, size_t problem_size, tourkit_problem_info *info,
                   uint8_t *out, size_t out_size, tourkit_answer *answer);
+
+/* Explains a text in words, as `tourkit explain` explains a file of this name: its first fault and how to fix it, or what it
+ * contains. If `line` is not 0, explains this line. `out` gets the explanation, and `text` is the kind of the text, which is
+ * recognized by its lines or by the name. The status is TOURKIT_FOUND if the text has a fault, with its line and its number,
+ * and otherwise TOURKIT_DONE. A name that is not UTF-8 is rejected. */
+void tourkit_explain(const uint8_t *text, size_t text_size, const uint8_t *name, size_t name_size, uint64_t line,
+                     uint8_t *out, size_t out_size, tourkit_answer *answer);
 
 /* ---- texts in, arrays out */
 

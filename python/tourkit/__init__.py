@@ -12,6 +12,7 @@ All reading, computing and searching is done by `libtourkit.so`, which is part o
 
 from ._arrays import distances, near
 from ._checks import check, check_solution
+from ._explaining import explain
 from ._library import require_version
 from ._matrix import matrix
 from ._pictures import Picture, plot
@@ -42,6 +43,7 @@ __all__ = [
     "check",
     "check_solution",
     "distances",
+    "explain",
     "matrix",
     "near",
     "plot",

@@ -8,7 +8,7 @@ import re
 import stat
 from typing import BinaryIO, Union
 
-from ._library import REFUSED, Answer, call, input_slice, output_slice
+from ._library import Answer, call, input_slice, output_slice
 from ._limits import TEXT_LIMIT
 
 # The number of bytes that are read at once.
@@ -73,7 +73,7 @@ def is_unbroken(end: bytes) -> bool:
 
 def fault_line(answer: Answer) -> int:
     """The line of the fault in a text that was read; 0 if there is none."""
-    return int(answer.line) if answer.status == REFUSED else 0
+    return int(answer.line)
 
 
 def read_problem(text: bytes) -> Answer:
@@ -91,10 +91,16 @@ def read_solution(text: bytes) -> Answer:
     return call("tourkit_checksol", *input_slice(CVRP), *input_slice(text), *output_slice(b""))
 
 
-# The functions that read each kind of text. The claim that `plot` draws is a tour or a solution.
+def read_any(text: bytes) -> Answer:
+    """Lets the library read a text of any kind."""
+    return call("tourkit_explain", *input_slice(text), *input_slice(b"text"), 0, *output_slice(b""))
+
+
+# The functions that read each kind of text. The claim that `plot` draws is a tour or a solution, and a text is of any kind.
 READERS = {
     "problem": [read_problem],
     "tour": [read_tour],
     "solution": [read_solution],
     "claim": [read_tour, read_solution],
+    "text": [read_any],
 }

@@ -60,6 +60,7 @@ class ProblemInfo(ctypes.Structure):
 
 SLICE = (ctypes.c_void_p, ctypes.c_size_t)
 NUMBER = (ctypes.c_uint32,)
+LONG_NUMBER = (ctypes.c_uint64,)
 FLAG = (ctypes.c_bool,)
 STRUCT = (ctypes.c_void_p,)
 
@@ -72,6 +73,7 @@ CALLS = {
     "tourkit_solve": 5 * SLICE,
     "tourkit_solve_routes": 2 * SLICE + STRUCT + 2 * SLICE,
     "tourkit_plot": 2 * SLICE + FLAG + 2 * SLICE,
+    "tourkit_explain": 2 * SLICE + LONG_NUMBER + SLICE,
     "tourkit_info": SLICE + STRUCT + SLICE,
     "tourkit_coordinates": 3 * SLICE,
     "tourkit_weights": 2 * SLICE,

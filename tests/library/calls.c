@@ -66,7 +66,7 @@ static text read_text(const char *folder, const char *name) {
 /* An answer has no padding, so its bytes can be compared. */
 _Static_assert(sizeof(tourkit_answer) == 4 * sizeof(uint32_t) + 2 * sizeof(uint64_t) + 2 * sizeof(size_t), "padding");
 
-enum { CALLS = 30, COORDINATES = 20, THREADS = 8, ROOM = 1 << 18, UNTOUCHED = 0x77 };
+enum { CALLS = 31, COORDINATES = 20, EXPLAINED = 30, THREADS = 8, ROOM = 1 << 18, UNTOUCHED = 0x77 };
 
 static text tsp, tour, vrp, sol, par, listed, par_vrp, five;
 static const int64_t xs[4] = {0, 3000000000, 3000000000, 500000000}, ys[4] = {0, 0, 4000000000, 4000000000};
@@ -93,7 +93,7 @@ static size_t unit_of(int which) {
 
 /* Whether a call is rejected, since a text has a fault, the problem does not fit, or there are too few numbers. */
 static bool is_refused_call(int which) {
-    return which == 8 || which == 11 || which == 19 || which >= 26;
+    return which == 8 || which == 11 || which == 19 || (which >= 26 && which < EXPLAINED);
 }
 
 /* Makes a call. */
@@ -132,10 +132,11 @@ static void call(int which, result *r) {
     case 23: tourkit_tour_cities(listed.bytes, listed.size, numbers, room / 4, a); break;
     case 24: tourkit_nearest_tour(tsp.bytes, tsp.size, 7, numbers, room / 4, a); break;
     case 25: tourkit_info(vrp.bytes, vrp.size, &r->info, o, room, a); break;
-    case 26: tourkit_coordinates(five.bytes, five.size, wide, room / 8, other, file_room / 8, a); break; /* refused, as all after it */
+    case 26: tourkit_coordinates(five.bytes, five.size, wide, room / 8, other, file_room / 8, a); break; /* refused, as the next three */
     case 27: tourkit_demands(tsp.bytes, tsp.size, numbers, room / 4, a); break;
     case 28: tourkit_info(tour.bytes, tour.size, &r->info, o, room, a); break;
     case 29: tourkit_nearest_tour(tsp.bytes, tsp.size, 455, numbers, room / 4, a); break;
+    case EXPLAINED: tourkit_explain(vrp.bytes, vrp.size, (const uint8_t *)"bakery", 6, 0, o, room, a); break;
     }
 }
 

@@ -2,6 +2,7 @@
 
 import dataclasses
 import json
+import os
 import re
 import sys
 from pathlib import Path
@@ -65,6 +66,8 @@ class Case:
 
     def has_call(self):
         """Returns whether the package has a function for the arguments."""
+        if self.command == "explain" and not (self.folder / "in" / self.words[1]).is_file():
+            return False  # the name of a fault, or standard input, whose name would be another
         return self.command in CALLS and not OF_THE_COMMAND & set(self.words) and not OF_THE_PROGRAM.search(self.stderr)
 
     def files(self):
@@ -296,4 +299,21 @@ def start_line(start):
     return f"{label} {start.cost}, routes {start.routes}{end}\n"
 
 
-CALLS = {"check": check, "checksol": check_solution, "near": near, "matrix": matrix, "plot": plot, "solve": solve}
+def explain(case):
+    file, *line = case.words[1:]
+    page = tourkit.explain(file, *map(int, line))
+    assert page == tourkit.explain(Renamed(file), *map(int, line)), "another explanation of a path"
+    return page.encode()
+
+
+class Renamed(os.PathLike):
+    """A file, given as an object."""
+
+    def __init__(self, name):
+        self.name = name
+
+    def __fspath__(self):
+        return self.name
+
+
+CALLS = {"explain": explain, "check": check, "checksol": check_solution, "near": near, "matrix": matrix, "plot": plot, "solve": solve}

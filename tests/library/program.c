@@ -3,7 +3,8 @@
  * usage: program check PROBLEM TOUR           program matrix PROBLEM FULL_MATRIX
  *        program checksol PROBLEM SOLUTION    program plot PROBLEM [TOUR | SOLUTION]
  *        program near PROBLEM [-k K]          program solve PARAMETERS
- *        program solve PROBLEM OPTION..       (a search between the routes of a CVRP) */
+ *        program solve PROBLEM OPTION..       (a search between the routes of a CVRP)
+ *        program explain FILE [LINE] */
 #include "tourkit.h"
 #include <inttypes.h>
 #include <stdio.h>
@@ -258,8 +259,23 @@ static int solve_routes(int count, char **words) {
     return (int)answer.status;
 }
 
+/* Runs `explain` on a file: once to get the number of bytes, and once to get the bytes. */
+static int explain(const char *name, uint64_t line) {
+    text explained = read_word(name);
+    tourkit_answer first, answer;
+    tourkit_explain(explained.bytes, explained.size, (const uint8_t *)name, strlen(name), line, room_for(0).bytes, 0, &first);
+    text out = room_for(first.needed);
+    tourkit_explain(explained.bytes, explained.size, (const uint8_t *)name, strlen(name), line, out.bytes, out.size, &answer);
+    expect(!memcmp(&answer, &first, sizeof answer), "the answer is the same again");
+    expect(answer.status == (answer.kind ? TOURKIT_FOUND : TOURKIT_DONE) && (answer.line > 0) == (answer.kind > 0), "a fault has a line");
+    expect(answer.text >= TOURKIT_PROBLEM && answer.text <= TOURKIT_PARAMETERS, "the text has a kind");
+    print(stdout, out);
+    return 0;
+}
+
 int main(int count, char **words) {
     expect(count >= 3, "there are words");
+    if (!strcmp(words[1], "explain")) return explain(words[2], count == 4 ? strtoull(words[3], NULL, 10) : 0);
     if (!strcmp(words[1], "solve")) return count == 3 ? solve(words[2]) : solve_routes(count, words);
     const char *files[] = {words[2], NULL};
     command given = {words[1], {NULL, 0}, {NULL, 0}, CANDIDATES};

@@ -73,6 +73,20 @@ def try_files():
             assert str(error) == "file must be a file (str or os.PathLike) or a text (bytes), not list", error
 
 
+def try_explanations():
+    """`explain` explains texts without a file too, and its errors name the argument."""
+    assert tourkit.explain(Path("tri.tsp").read_bytes()).startswith("<text> has no fault: "), "another name"
+    assert tourkit.explain("tri.tour", 2).startswith("tri.tour:2: "), "another line"
+    for call, message in {
+        lambda: tourkit.explain("tri.tsp", 0): "line must be from 1 to 18,446,744,073,709,551,615, not 0",
+        lambda: tourkit.explain([1]): "file must be a file (str or os.PathLike) or a text (bytes), not list",
+    }.items():
+        try:
+            raise AssertionError(call())
+        except (TypeError, ValueError) as error:
+            assert str(error) == message, error
+
+
 def try_version():
     """The version of the package is that of the library and of the program. The package rejects a library of another version."""
     version = tourkit.__version__
@@ -92,4 +106,4 @@ def try_version():
 
 def tests():
     """Returns the checks of this file, named by their docstrings."""
-    return [(check.__doc__, check) for check in (try_tours, try_solutions, try_files, try_version)]
+    return [(check.__doc__, check) for check in (try_tours, try_solutions, try_files, try_explanations, try_version)]

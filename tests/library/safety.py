@@ -79,6 +79,7 @@ def make_each_call():
         assert problem.points and problem.weights is None and bool(problem.demands) == (problem.kind == "cvrp")
     tourkit.solve(text, runs=2, jobs=2)
     tourkit.read_tour(bytearray(found.text))
+    tourkit.explain(text, 2)
     with contextlib.suppress(tourkit.Refused):
         tourkit.near(bytearray(b"EOF\n"))
 

@@ -60,11 +60,12 @@ def main() -> None:
     picture: tourkit.Picture = tourkit.plot(problem, found)
     tour: List[int] = tourkit.read_tour("tri.tour")
     solution: List[List[int]] = tourkit.read_solution("bakery-plan.sol")
+    explanation: str = tourkit.explain("tri.tsp", 4) + tourkit.explain(b"TYPE : TSP")
     try:
         tourkit.solve(problem, jobs=2)
     except tourkit.Interrupted as stop:
         print(stop.best.length if stop.best else 0)
     try:
-        print(tourkit.near(problem, k=2).tolist(), distances.shape, text, picture.title, tour, solution, tourkit.__version__)
+        print(tourkit.near(problem, k=2).tolist(), distances.shape, text, picture.title, tour, solution, explanation, tourkit.__version__)
     except tourkit.Refused as fault:
         print(fault.number, fault.name, fault.line, fault.file)

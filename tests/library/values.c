@@ -141,6 +141,30 @@ static void tours(void) {
     expect(is_fault(0, 0, 0), "a nearest-neighbour tour of city 0");
 }
 
+/* Explains a text of this name. */
+static void explain_text(const char *text, const char *name, uint64_t line) {
+    tourkit_explain((const uint8_t *)text, strlen(text), (const uint8_t *)name, strlen(name), line, ARRAY(file), &answer);
+}
+
+/* Whether the answer is about a text of this kind with this fault; 0 for none. */
+static int is_about(uint32_t text, uint64_t line, uint32_t kind) {
+    return answer.status == (kind ? TOURKIT_FOUND : TOURKIT_DONE) && answer.text == text && answer.line == line && answer.kind == kind;
+}
+
+static void explanations(void) {
+    explain_text(PROBLEM, "board.tsp", 0);
+    expect(is_about(TOURKIT_PROBLEM, 0, 0) && begins(file, "board.tsp has no fault: "), "a problem without a fault");
+    explain_text("TYPE: TOUR\nTYPE", "a.tour", 0);
+    expect(is_about(TOURKIT_TOUR, 2, 2) && begins(file, "a.tour:2: 2 Repeated"), "a tour with a header twice, explained");
+    explain_text("Route #1: 1\nCost\n", "a.sol", 0);
+    expect(is_about(TOURKIT_SOLUTION, 2, 5), "a solution with a fault");
+    explain_text("PROBLEM_FILE = a\nRUNS = 0\n", "a.par", 1);
+    expect(is_about(TOURKIT_PARAMETERS, 2, 3), "a line of parameters with a fault on another line");
+    memset(file, 7, sizeof file);
+    explain_text(PROBLEM, "\xff", 0);
+    expect(is_fault(0, 0, 0) && answer.needed == 0 && file[0] == 7, "a name that is not UTF-8");
+}
+
 static void searches(void) {
     tourkit_solve(TEXT("PROBLEM_FILE = -\nRUNS = 1\nOPTIMUM = 3\n"), TEXT(PROBLEM), TEXT(""), ARRAY(out), ARRAY(file), &answer);
     expect(answer.status == TOURKIT_DONE && begins(out, "ignored OPTIMUM\nrun 1: start 12, best 12, trials 1"), "a search");
@@ -250,6 +274,7 @@ int main(void) {
     contents();
     known();
     tours();
+    explanations();
     searches();
     routes();
     limits();

@@ -2,6 +2,7 @@ pub mod Answers
 pub mod Arrays
 pub mod Checks
 pub mod Contents
+pub mod Explained
 pub mod HandedOut
 pub mod InfoStruct
 pub mod Outcomes

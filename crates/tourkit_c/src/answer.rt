@@ -44,7 +44,7 @@ pub struct Answer {
 }
 
 /// The number of a kind of text fault.
-fn number(kind: &TextKind) -> u32
+pub(crate) fn number(kind: &TextKind) -> u32
     ensures { result ≡ text_number kind.now }
 {
     match kind {
@@ -67,7 +67,7 @@ fn number(kind: &TextKind) -> u32
 }
 
 /// The number of a kind of parameter fault.
-fn number_of_params(kind: &ParamKind) -> u32
+pub(crate) fn number_of_params(kind: &ParamKind) -> u32
     ensures { result ≡ param_number kind.now }
 {
     match kind {

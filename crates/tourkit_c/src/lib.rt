@@ -9,6 +9,7 @@ mod answer;
 mod arrays;
 mod check;
 mod contents;
+mod explain;
 mod hand_out;
 mod info;
 mod lists;
