@@ -95,7 +95,7 @@ typedef struct {
     uint32_t place;     /* the place of the fault in a tour, from 1, or the number of the route or customer; 0 for none */
     uint64_t length;    /* the length of a tour, from tourkit_check_cities and the other checks of arrays */
     size_t needed;      /* the number of bytes or numbers to write */
-    size_t needed_file; /* like `needed`, for the second buffer of tourkit_solve, tourkit_solve_routes and tourkit_plot */
+    size_t needed_file; /* like `needed`, for the second buffer of tourkit_solve, tourkit_solve_routes, tourkit_plot and tourkit_page */
 } tourkit_answer;
 
 /* What is known of a problem, apart from its name. Coordinates are in units of 10^-9. Numbers that do not apply are 0. */
@@ -173,6 +173,10 @@ void tourkit_solve_routes(const uint8_t *problem, size_t problem_size, const uin
  * bytes. If the tour or the routes have a fault, the status is TOURKIT_FOUND, and `told` gets the line that reports it, of
  * `needed_file` bytes. If a text is rejected, `told` gets the message, of `needed` bytes. */
 void tourkit_plot(const uint8_t *problem, size_t problem_size, const uint8_t *claim, size_t claim_size, bool has_claim,
+                  uint8_t *out, size_t out_size, uint8_t *told, size_t told_size, tourkit_answer *answer);
+
+/* Like tourkit_plot, but `out` gets an HTML page with the picture, to zoom and pan, and a table of the routes. */
+void tourkit_page(const uint8_t *problem, size_t problem_size, const uint8_t *claim, size_t claim_size, bool has_claim,
                   uint8_t *out, size_t out_size, uint8_t *told, size_t told_size, tourkit_answer *answer);
 
 /* Finds out what is known of a problem: `info` gets the numbers, and `out` the name, of at most 1,024 bytes. If the text is

@@ -73,6 +73,7 @@ CALLS = {
     "tourkit_solve": 5 * SLICE,
     "tourkit_solve_routes": 2 * SLICE + STRUCT + 2 * SLICE,
     "tourkit_plot": 2 * SLICE + FLAG + 2 * SLICE,
+    "tourkit_page": 2 * SLICE + FLAG + 2 * SLICE,
     "tourkit_explain": 2 * SLICE + LONG_NUMBER + SLICE,
     "tourkit_info": SLICE + STRUCT + SLICE,
     "tourkit_coordinates": 3 * SLICE,

@@ -2,9 +2,9 @@
 
 from __future__ import annotations
 
-import html
 import re
 from dataclasses import dataclass, field
+from html import unescape
 from typing import Any, Iterable, Optional, Union
 
 from ._arguments import items_of
@@ -17,38 +17,46 @@ from ._text import ACCEPTED, Bytes, File, Text
 from ._verdicts import RouteVerdict, TourVerdict, Verdict, verdict_in
 from ._writing import LINE, write_texts
 
-# The maximum number of bytes of a picture without its cities, and of a city in it.
-FRAME = 8192
-CITY = 64
+# The maximum number of bytes of a picture and of a page without the cities, and of a city in them.
+FRAME, PAGE_FRAME = 8192, 65536
+CITY, PAGE_CITY = 64, 256
 
 
 @dataclass(frozen=True)
 class Picture:
-    """A picture: its title, and the text of an SVG file. Notebooks display it."""
+    """A picture: its title, the text of an SVG file and, if it was requested, that of an HTML page. Notebooks display it."""
 
     title: str
     svg: bytes = field(repr=False)
+    html: Optional[bytes] = field(default=None, repr=False)
 
     def _repr_svg_(self) -> str:
         return self.svg.decode()
 
 
-def plot(problem: Union[Problem, File, Bytes], claim: Optional[Claim] = None) -> Picture:
-    """Draws the cities of a problem, and a tour or the routes of a solution, which are checked first.
+def plot(problem: Union[Problem, File, Bytes], claim: Optional[Claim] = None, *, html: bool = False) -> Picture:
+    """Draws the cities of a problem, and a tour or the routes of a solution, which are checked first. With `html`, the picture also has an
+    HTML page, as `tourkit plot --html` prints it.
 
         >>> tourkit.plot("tri.tsp", [1, 2, 3])
         Picture(title='tri: tour of 3 cities, length 12')
     """
     asked = problem_of(problem)
     text = Text(b"", "claim") if claim is None else claimed_text(claim, "claim") or listed_text(asked, claim)
-    words = (*asked._source.words, *text.words, claim is not None)
-    sizes = [FRAME + CITY * asked._guess_size(), LINE]
-    answer, (svg, line) = write_texts("tourkit_plot", [asked._source, text], words, sizes, message=1)
+    svg = drawn("tourkit_plot", asked, text, claim is not None, FRAME + CITY * asked._guess_size())
+    page = drawn("tourkit_page", asked, text, claim is not None, PAGE_FRAME + PAGE_CITY * asked._guess_size()) if html else None
+    title = re.search(rb"<title>(.*)</title>", svg)
+    return Picture(unescape(title[1].decode()) if title else "", svg, page)
+
+
+def drawn(name: str, problem: Problem, claim: Text, has_claim: bool, size: int) -> bytes:
+    """The text that a function writes which draws a problem with a tour or routes."""
+    words = (*problem._source.words, *claim.words, has_claim)
+    answer, (text, line) = write_texts(name, [problem._source, claim], words, [size, LINE], message=1)
     if answer.status == FOUND:
         verdict: Verdict = verdict_in(line, TourVerdict, RouteVerdict)
-        raise Refused(str(verdict), None, verdict.fault, None, text.file)
-    title = re.search(rb"<title>(.*)</title>", svg)
-    return Picture(html.unescape(title[1].decode()) if title else "", svg)
+        raise Refused(str(verdict), None, verdict.fault, None, claim.file)
+    return text
 
 
 def listed_text(problem: Problem, claim: Any) -> Text:

@@ -66,7 +66,7 @@ static text read_text(const char *folder, const char *name) {
 /* An answer has no padding, so its bytes can be compared. */
 _Static_assert(sizeof(tourkit_answer) == 4 * sizeof(uint32_t) + 2 * sizeof(uint64_t) + 2 * sizeof(size_t), "padding");
 
-enum { CALLS = 31, COORDINATES = 20, EXPLAINED = 30, THREADS = 8, ROOM = 1 << 18, UNTOUCHED = 0x77 };
+enum { CALLS = 32, COORDINATES = 20, EXPLAINED = 30, THREADS = 8, ROOM = 1 << 18, UNTOUCHED = 0x77 };
 
 static text tsp, tour, vrp, sol, par, listed, par_vrp, five;
 static const int64_t xs[4] = {0, 3000000000, 3000000000, 500000000}, ys[4] = {0, 0, 4000000000, 4000000000};
@@ -136,6 +136,7 @@ static void call(int which, result *r) {
     case 27: tourkit_demands(tsp.bytes, tsp.size, numbers, room / 4, a); break;
     case 28: tourkit_info(tour.bytes, tour.size, &r->info, o, room, a); break;
     case 29: tourkit_nearest_tour(tsp.bytes, tsp.size, 455, numbers, room / 4, a); break;
+    case 31: tourkit_page(vrp.bytes, vrp.size, sol.bytes, sol.size, true, o, room, f, file_room, a); break;
     case EXPLAINED: tourkit_explain(vrp.bytes, vrp.size, (const uint8_t *)"bakery", 6, 0, o, room, a); break;
     }
 }

@@ -17,7 +17,7 @@ from tourkit._search import search
 from tourkit._text import Text
 
 # What the package does not have.
-OF_THE_COMMAND = {"--help", "--html", "--vehicles"}
+OF_THE_COMMAND = {"--help", "--vehicles"}
 
 # Messages about the command line, the files that the program opens and writes, or its two ways to search.
 OF_THE_PROGRAM = re.compile(r"^error: |cannot be opened|is the same file as|is the parameter file|search options need")
@@ -72,7 +72,7 @@ class Case:
 
     def files(self):
         """Returns its files, and the contents of standard input for `-`, as the package accepts them."""
-        return [self.given(word) for word in self.words[1:] if word != "--json"]
+        return [self.given(word) for word in self.words[1:] if word not in ("--json", "--html")]
 
     def given(self, word):
         """Returns a file, or the contents of standard input for `-`."""
@@ -191,7 +191,12 @@ def lines_of(rows):
 
 
 def plot(case):
-    return tourkit.plot(*case.files()).svg
+    """Returns the picture or the page of a case. A page contains its picture."""
+    if "--html" not in case.words:
+        return tourkit.plot(*case.files()).svg
+    picture = tourkit.plot(*case.files(), html=True)
+    assert picture.svg == tourkit.plot(*case.files()).svg, "another picture"
+    return picture.html
 
 
 def solve(case):

@@ -1,7 +1,7 @@
 /* The commands of tourkit that the library offers, implemented by its functions. Output, written files and status must be those of tourkit,
  * so that tests/run can run this program on the cases of tests/cases.
  * usage: program check PROBLEM TOUR           program matrix PROBLEM FULL_MATRIX
- *        program checksol PROBLEM SOLUTION    program plot PROBLEM [TOUR | SOLUTION]
+ *        program checksol PROBLEM SOLUTION    program plot PROBLEM [TOUR | SOLUTION] [--html]
  *        program near PROBLEM [-k K]          program solve PARAMETERS
  *        program solve PROBLEM OPTION..       (a search between the routes of a CVRP)
  *        program explain FILE [LINE] */
@@ -146,14 +146,16 @@ static int run(const command *given, const char *const *files) {
 }
 
 /* Runs `plot`. */
-static int plot(const command *given, bool has_claim, const char *const *files) {
+static int plot(const command *given, bool has_claim, bool as_page, const char *const *files) {
+    void (*const draw)(const uint8_t *, size_t, const uint8_t *, size_t, bool, uint8_t *, size_t, uint8_t *, size_t, tourkit_answer *) =
+        as_page ? tourkit_page : tourkit_plot;
     text p = given->problem, c = given->claim;
     tourkit_answer first, answer;
     text none = room_for(0), also_none = room_for(0);
-    tourkit_plot(p.bytes, p.size, c.bytes, c.size, has_claim, none.bytes, 0, also_none.bytes, 0, &first);
+    draw(p.bytes, p.size, c.bytes, c.size, has_claim, none.bytes, 0, also_none.bytes, 0, &first);
     bool is_refused = first.status > TOURKIT_FOUND;
     text out = room_for(is_refused ? 0 : first.needed), told = room_for(is_refused ? first.needed : first.needed_file);
-    tourkit_plot(p.bytes, p.size, c.bytes, c.size, has_claim, out.bytes, out.size, told.bytes, told.size, &answer);
+    draw(p.bytes, p.size, c.bytes, c.size, has_claim, out.bytes, out.size, told.bytes, told.size, &answer);
     expect(answer.status == first.status && answer.needed == first.needed, "the answer is the same again");
     if (is_refused) return end_refused(files, 1, told, &answer);
     print(stdout, out);
@@ -277,6 +279,15 @@ int main(int count, char **words) {
     expect(count >= 3, "there are words");
     if (!strcmp(words[1], "explain")) return explain(words[2], count == 4 ? strtoull(words[3], NULL, 10) : 0);
     if (!strcmp(words[1], "solve")) return count == 3 ? solve(words[2]) : solve_routes(count, words);
+    bool as_page = false;
+    if (!strcmp(words[1], "plot")) {
+        int kept = 2;
+        for (int i = 2; i < count; i++) {
+            if (strcmp(words[i], "--html")) words[kept++] = words[i];
+            else as_page = true;
+        }
+        count = kept;
+    }
     const char *files[] = {words[2], NULL};
     command given = {words[1], {NULL, 0}, {NULL, 0}, CANDIDATES};
     if (!strcmp(words[1], "near")) {
@@ -288,5 +299,5 @@ int main(int count, char **words) {
     }
     given.problem = read_word(files[0]);
     given.claim = files[1] ? read_word(files[1]) : room_for(0);
-    return strcmp(words[1], "plot") ? run(&given, files) : plot(&given, files[1] != NULL, files);
+    return strcmp(words[1], "plot") ? run(&given, files) : plot(&given, files[1] != NULL, as_page, files);
 }

@@ -68,7 +68,7 @@ def make_each_call():
     for problem in (text, memoryview(text), points, weights):
         for tour in (cities, memoryview(cities), memoryview(cities)[::-1], ctypes_array(cities)):
             assert tourkit.check(problem, tour), tour
-            tourkit.plot(problem if problem is not weights else text, tour)
+            tourkit.plot(problem if problem is not weights else text, tour, html=True)
         tourkit.near(problem, 2), tourkit.distances(problem), tourkit.matrix(problem)
     found = tourkit.solve(text, runs=1, initial_tour=cities)
     assert tourkit.check(text, tourkit.Tour(found.length, found.cities, found.runs, bytearray(found.text)))

@@ -57,7 +57,7 @@ def main() -> None:
         print(x + y, problem.name.upper(), problem.kind, problem.distance_type, problem.size)
     distances: memoryview = tourkit.distances("tri.tsp")
     text: bytes = tourkit.matrix("tri.tsp")
-    picture: tourkit.Picture = tourkit.plot(problem, found)
+    picture: tourkit.Picture = tourkit.plot(problem, found, html=True)
     tour: List[int] = tourkit.read_tour("tri.tour")
     solution: List[List[int]] = tourkit.read_solution("bakery-plan.sol")
     explanation: str = tourkit.explain("tri.tsp", 4) + tourkit.explain(b"TYPE : TSP")
@@ -66,6 +66,6 @@ def main() -> None:
     except tourkit.Interrupted as stop:
         print(stop.best.length if stop.best else 0)
     try:
-        print(tourkit.near(problem, k=2).tolist(), distances.shape, text, picture.title, tour, solution, explanation, tourkit.__version__)
+        print(tourkit.near(problem, k=2).tolist(), distances.shape, text, picture.title, picture.html or picture.svg, tour, solution, explanation, tourkit.__version__)
     except tourkit.Refused as fault:
         print(fault.number, fault.name, fault.line, fault.file)

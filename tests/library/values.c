@@ -173,6 +173,10 @@ static void searches(void) {
     expect(is_fault(1, 1, 3), "a search of no run");
     tourkit_plot(TEXT(PROBLEM), TEXT(TOUR), true, ARRAY(file), ARRAY(out), &answer);
     expect(answer.status == TOURKIT_DONE && answer.needed_file == 0 && begins(file, "<svg"), "a picture");
+    tourkit_page(TEXT(PROBLEM), TEXT(TOUR), true, ARRAY(file), ARRAY(out), &answer);
+    expect(answer.status == TOURKIT_DONE && answer.needed > 35000 && begins(file, "<!DOCTYPE html>"), "a page");
+    tourkit_page(TEXT(PROBLEM), TEXT("TYPE: TOUR\nTOUR_SECTION\n1 2\n"), true, ARRAY(file), ARRAY(out), &answer);
+    expect(answer.status == TOURKIT_FOUND && begins(out, "wrong count: 3 wanted, 2 read\n"), "a page of too few cities");
 }
 
 #define ROUTES "TYPE: CVRP\nDIMENSION: 4\nCAPACITY: 2\nEDGE_WEIGHT_TYPE: EUC_2D\nNODE_COORD_SECTION\n1 0 0\n2 3 0\n3 3 4\n4 0 4\n" \

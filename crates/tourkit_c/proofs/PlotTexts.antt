@@ -9,7 +9,7 @@ use Rattle.tk_engines.specs.Engine.{IsGiven, ReadsProblem, ReadsSolution, ReadsT
 use Rattle.tk_words.specs.declared.sources.source.Source as sources
 use Rattle.tk_writers.specs.declared.output.sink.Sink as sinks
 use Rattle.tk_engines.specs.declared.fault.Fault.{Fault}
-use Rattle.tk_picture.specs.declared.picture.Form.TheVariants as forms
+use Rattle.tk_picture.specs.declared.picture.Form.{Form}
 use Rattle.tk_engines.specs.Plot.{Claim, Drawn, Nothing, Output, ReadsClaim, Refused, RoutesClaim, TourClaim}
 use Rattle.tk_engines.specs.Plot.{WritesOutput, plot_task}
 use Rattle.tk_engines.specs.declared.engines.plotted.Plotted.{Plotted}
@@ -55,16 +55,16 @@ written_of outs tolds out out' told told' items lines (Refused line) e i f j h =
 -- the output of the engine, in terms of its texts
 pub plot_said : {S C W T : Type 0} (source : sources.Ghosts S) (old new : S) (claims : sources.Ghosts C)
     (claim_old claim_new : C) (outs : sinks.Ghosts W) (out out' : W) (tolds : sinks.Ghosts T) (told told' : T)
-    (given : Bool) (answer : Plotted) (problem claim items lines : List ℕ)
-    → IsGiven (plot_task forms.Svg given) (ReadsProblem source old new) (ReadsClaim given claims claim_old claim_new)
+    (form : Form) (given : Bool) (answer : Plotted) (problem claim items lines : List ℕ)
+    → IsGiven (plot_task form given) (ReadsProblem source old new) (ReadsClaim given claims claim_old claim_new)
     (WritesOutput outs tolds out out' told told' (Ok tt)) answer
     → source.left old ≡ Some problem → claims.left claim_old ≡ Some claim
     → outs.taken out ≡ Some [] → outs.taken out' ≡ Some items
     → tolds.taken told ≡ Some [] → tolds.taken told' ≡ Some lines
-    → (output : Output) × IsPlotOf given problem claim answer output × (items ≡ picture_in output)
+    → (output : Output) × IsPlotOf form given problem claim answer output × (items ≡ picture_in output)
     × (lines ≡ line_in output)
-plot_said source old new claims claim_old claim_new outs out out' tolds told told' given answer problem claim items
-    lines h e f g i j k =
+plot_said source old new claims claim_old claim_new outs out out' tolds told told' form given answer problem claim
+    items lines h e f g i j k =
     let w = written_of outs tolds out out' told told' items lines h.text g i j k
     h.written in (
       h.text,

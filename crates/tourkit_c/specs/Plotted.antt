@@ -8,6 +8,9 @@ use Rattle.tk_engines.specs.declared.engines.plotted.Plotted.TheVariants as plot
 use Rattle.tk_engines.specs.Plot.{Claim, Drawn, IsPlot, Nothing, Output, Refused, RoutesClaim, TourClaim}
 use Rattle.tk_engines.specs.Plot.{without_places}
 use Rattle.tk_engines.specs.declared.fault.Fault.{Fault}
+use Rattle.tk_page.specs.PageParts.{ArePageParts}
+use Rattle.tk_picture.specs.declared.page.parts.Parts.{Parts}
+use Rattle.tk_picture.specs.declared.picture.Form.{Form}
 use Rattle.tk_picture.specs.declared.picture.Form.TheVariants as forms
 use Rattle.tourkit_c.specs.Answers.{IsFaulty}
 use Rattle.tourkit_c.specs.Texts.{AreWritten, HasFault, TextSays, route_status, tour_status}
@@ -20,12 +23,13 @@ ClaimSays given text p Nothing = given ≡ false
 ClaimSays given text p (TourClaim cities) = (given ≡ true) × (p.routing ≡ None) × TextSays tour_texts text cities
 ClaimSays given text p (RoutesClaim s) = (given ≡ true) × (is_some p.routing ≡ true) × TextSays solution_texts text s
 
-pub record IsPlotOf (given : Bool) (problem claim : List ℕ) (answer : Plotted) (output : Output) : Type 0 where
+pub record IsPlotOf (form : Form) (given : Bool) (problem claim : List ℕ) (answer : Plotted) (output : Output) :
+    Type 0 where
   pub p : ProblemIs
   pub c : Claim
   pub is_problem : TextSays problem_texts problem p
   pub is_claim : ClaimSays given claim p c
-  pub is : IsPlot forms.Svg p c answer output
+  pub is : IsPlot form p c answer output
 
 -- 1 if the tour or the routes have a fault, otherwise 0
 abbrev pub plot_status : Plotted → ℕ
@@ -42,12 +46,17 @@ abbrev pub line_in : Output → List ℕ
 line_in (Drawn picture) = []
 line_in (Refused line) = line
 
--- the picture of a problem and of its tour or routes was written to one buffer, or the line that reports their fault to
--- the other
-abbrev pub HoldPlot : Bool → List ℕ → List ℕ → List ℕ → List ℕ → List ℕ → List ℕ → Answer → Type 0
-HoldPlot given problem claim out out' told told' answer =
-    (done : Plotted) × (output : Output) × IsPlotOf given problem claim done output
+-- the picture of a problem and of its tour or routes was written to one buffer, in this format, or the line that
+-- reports their fault to the other
+abbrev pub HoldPlot : Form → Bool → List ℕ → List ℕ → List ℕ → List ℕ → List ℕ → List ℕ → Answer → Type 0
+HoldPlot form given problem claim out out' told told' answer =
+    (done : Plotted) × (output : Output) × IsPlotOf form given problem claim done output
     × AreWritten (plot_status done) (picture_in output) out out' (line_in output) told told' answer
+
+-- likewise, in an HTML page
+abbrev pub HoldPage : Bool → List ℕ → List ℕ → List ℕ → List ℕ → List ℕ → List ℕ → Answer → Type 0
+HoldPage given problem claim out out' told told' answer =
+    (parts : Parts) × ArePageParts parts × HoldPlot (forms.Page parts) given problem claim out out' told told' answer
 
 -- a problem without coordinates cannot be drawn
 abbrev pub plot_misfit : ProblemIs → Option Fault

@@ -2,9 +2,10 @@
 ghost use Rattle.std.specs.Prelude.{◌≡◌, ◌≤◌, IfOk, IfErr};
 ghost use Rattle.tk_engines.specs.Plot.{Output};
 ghost use Rattle.tk_engines.specs.declared.engines.plotted.Plotted.{Plotted};
+ghost use Rattle.tk_picture.specs.declared.picture.Form.TheVariants.{Svg};
 ghost use Rattle.tourkit_c.specs.Answers.{IsRightRefusal, IsStop, NeverClashes};
 ghost use Rattle.tourkit_c.specs.Outcomes.{with_status};
-ghost use Rattle.tourkit_c.specs.Plotted.{IsClaimRefused, IsPlotOf, HoldPlot, IsSolutionFault, IsTourFault};
+ghost use Rattle.tourkit_c.specs.Plotted.{HoldPage, HoldPlot, IsClaimRefused, IsPlotOf, IsSolutionFault, IsTourFault};
 ghost use Rattle.tourkit_c.specs.Plotted.{line_in, picture_in, plot_misfit, plot_status};
 ghost use Rattle.tourkit_c.specs.Texts.{IsSomeText};
 
@@ -12,6 +13,7 @@ use crate::answer::{Answer, stopped};
 use crate::hand_out::hand_out;
 use std::alloc::Global;
 use tk_engines::{Fault, Plotted, plot_engine};
+use tk_page::page_parts;
 use tk_picture::Form;
 use tk_routes::RouteVerdict;
 use tk_text::{FromRead, ToWrite};
@@ -21,11 +23,12 @@ use tk_tour::Verdict;
 /// is empty.
 fn plotted(
     alloc: Global,
+    form: Form<'_>,
     problem: &[u8],
     claim: &[u8],
     has_claim: bool,
 ) -> Result<(Plotted, Vec<u8>, Vec<u8>), Fault>
-    ensures ok { IfOk result (λ r. (output : Output) × IsPlotOf has_claim problem.now claim.now r.0 output
+    ensures ok { IfOk result (λ r. (output : Output) × IsPlotOf form.entry has_claim problem.now claim.now r.0 output
         × (r.1.items ≡ picture_in output) × (r.2.items ≡ line_in output)) }
     ensures err { IfErr result (IsStop plot_misfit NeverClashes (IsTourFault has_claim claim.now)
         (IsSolutionFault has_claim claim.now) problem.now) }
@@ -39,7 +42,7 @@ fn plotted(
         &mut problem,
         &mut claim,
         has_claim,
-        Form::Svg,
+        form,
         &mut out,
         &mut told,
     ) {
@@ -60,6 +63,37 @@ fn status_of(plotted: Plotted) -> u32
     }
 }
 
+/// Draws a problem in a format, and the tour or the routes of another text.
+fn drawn(
+    alloc: Global,
+    form: Form<'_>,
+    problem: &[u8],
+    claim: &[u8],
+    has_claim: bool,
+    out: &mut [u8],
+    told: &mut [u8],
+) -> Answer
+    ensures given { result.status ≤ 1
+        → HoldPlot form.entry has_claim problem.now claim.now out.old out.new told.old told.new result }
+    ensures known { result.status ≤ 3 }
+    ensures refused { result.status ≡ 2
+        → IsRightRefusal plot_misfit NeverClashes (IsClaimRefused has_claim claim.now) 1 problem.now result }
+    ensures memory { result.status ≡ 3 → result ≡ with_status 3 result.needed }
+    ensures message { 2 ≤ result.status → IsSomeText told.old told.new result }
+    ensures kept { 2 ≤ result.status → out.new ≡ out.old }
+{
+    match plotted(alloc, form, problem, claim, has_claim) {
+        Ok((done, picture, line)) => {
+            Answer::ended_twice(
+                status_of(done),
+                hand_out(&picture, out),
+                hand_out(&line, told),
+            )
+        }
+        Err(fault) => stopped(alloc, 1, &fault, told),
+    }
+}
+
 /// Draws a problem, and if `has_claim` is true, the tour or the routes of another text: `out` gets the picture (SVG),
 /// of `needed` bytes. If the tour or the routes have a fault, the status is 1, and `told` gets the line that reports
 /// it, of `needed_file` bytes. If a text is rejected, or the problem has no coordinates, `told` gets the message, of
@@ -75,7 +109,7 @@ pub extern "C" fn tourkit_plot(
     answer: &mut Answer,
 )
     ensures given { answer.new.status ≤ 1
-        → HoldPlot has_claim problem.now claim.now out.old out.new told.old told.new answer.new }
+        → HoldPlot Svg has_claim problem.now claim.now out.old out.new told.old told.new answer.new }
     ensures known { answer.new.status ≤ 3 }
     ensures refused { answer.new.status ≡ 2
         → IsRightRefusal plot_misfit NeverClashes (IsClaimRefused has_claim claim.now) 1 problem.now answer.new }
@@ -83,14 +117,37 @@ pub extern "C" fn tourkit_plot(
     ensures message { 2 ≤ answer.new.status → IsSomeText told.old told.new answer.new }
     ensures kept { 2 ≤ answer.new.status → out.new ≡ out.old }
 {
-    *answer = match plotted(alloc, problem, claim, has_claim) {
-        Ok((done, picture, line)) => {
-            Answer::ended_twice(
-                status_of(done),
-                hand_out(&picture, out),
-                hand_out(&line, told),
-            )
-        }
-        Err(fault) => stopped(alloc, 1, &fault, told),
-    };
+    *answer = drawn(alloc, Form::Svg, problem, claim, has_claim, out, told);
+}
+
+/// Like `tourkit_plot`, but `out` gets an HTML page with the picture.
+#[unsafe(no_mangle)]
+pub extern "C" fn tourkit_page(
+    alloc: Global,
+    problem: &[u8],
+    claim: &[u8],
+    has_claim: bool,
+    out: &mut [u8],
+    told: &mut [u8],
+    answer: &mut Answer,
+)
+    ensures given { answer.new.status ≤ 1
+        → HoldPage has_claim problem.now claim.now out.old out.new told.old told.new answer.new }
+    ensures known { answer.new.status ≤ 3 }
+    ensures refused { answer.new.status ≡ 2
+        → IsRightRefusal plot_misfit NeverClashes (IsClaimRefused has_claim claim.now) 1 problem.now answer.new }
+    ensures memory { answer.new.status ≡ 3 → answer.new ≡ with_status 3 answer.new.needed }
+    ensures message { 2 ≤ answer.new.status → IsSomeText told.old told.new answer.new }
+    ensures kept { 2 ≤ answer.new.status → out.new ≡ out.old }
+{
+    let parts = page_parts();
+    *answer = drawn(
+        alloc,
+        Form::Page(parts),
+        problem,
+        claim,
+        has_claim,
+        out,
+        told,
+    );
 }

@@ -9,7 +9,7 @@ use Rattle.tourkit_c.specs.Answers.{NeverClashes}
 pub returns-in-Ok-clause-ok : goal.returns-in-Ok-clause-ok
 returns-in-Ok-clause-ok c =
     plot_said _ _ _ from_memory c.new-claim.result c.plot_engine.new.claim
-    to_memory c.new-out.result c.plot_engine.new.out to_memory c.new-told.result c.plot_engine.new.told _ _ _ _ _ _
+    to_memory c.new-out.result c.plot_engine.new.out to_memory c.new-told.result c.plot_engine.new.told _ _ _ _ _ _ _
     c.in-Ok.ensures.ends
     (ap (λ v. Some v.now) c.new-problem.ensures.inner) (ap (λ v. Some v.now) c.new-claim.ensures.inner)
     (ap (λ v. Some v.items) c.new-out.ensures.inner ∙ ap Some c.new.ensures.items) refl

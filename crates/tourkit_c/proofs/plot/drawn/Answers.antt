@@ -2,7 +2,7 @@ use Rattle.std.proofs.Common.{◌∙◌, arith, inl, inr, refl}
 use Rattle.tourkit_c.specs.Plotted.{IsSolutionFault, IsTourFault}
 use Rattle.tourkit_c.proofs.HandingOut.{both_written}
 use Rattle.tourkit_c.proofs.Refusals.{faulty, right_refusal}
-use Rattle.tourkit_c.proofs.plot.tourkit_plot.Goals as goal
+use Rattle.tourkit_c.proofs.plot.drawn.Goals as goal
 
 pub returns-in-Ok-clause-given : goal.returns-in-Ok-clause-given
 returns-in-Ok-clause-given c = λ _.
