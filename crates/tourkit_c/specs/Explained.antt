@@ -2,8 +2,8 @@
 use Rattle.std.specs.Prelude.{◌≡◌, ◌<◌, ℕ, List, Option, None, Some, length}
 use Rattle.tk_diagnosis.specs.declared.fault.FileFault.{FileFault}
 use Rattle.tk_diagnosis.specs.declared.fault.FileFault.TheVariants as faults
-use Rattle.tk_diagnosis.specs.declared.kind.Kind.{Kind}
-use Rattle.tk_diagnosis.specs.declared.kind.Kind.TheVariants as kinds
+use Rattle.tk_kinds.specs.declared.kind.Kind.{Kind}
+use Rattle.tk_kinds.specs.declared.kind.Kind.TheVariants as kinds
 use Rattle.tk_explain.specs.Answers.{fault_of}
 use Rattle.tourkit_c.specs.HandedOut.{handed_out}
 use Rattle.tourkit_c.specs.Outcomes.{param_number, text_number}

@@ -9,8 +9,9 @@ use crate::answer::{Answer, NO_MEMORY, REFUSED, number, number_of_params};
 use crate::hand_out::hand_out;
 use std::alloc::{AllocError, Global};
 use std::str;
-use tk_diagnosis::{FileFault, Kind};
+use tk_diagnosis::FileFault;
 use tk_explain::{FilePage, file_page, line_page};
+use tk_kinds::Kind;
 
 /// The number of a kind of text.
 fn number_of(kind: Kind) -> u32

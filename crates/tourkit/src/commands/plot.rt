@@ -1,10 +1,10 @@
 //! The subcommand `plot`.
 use crate::commands::{check, checksol};
-use crate::embedded::page::{HEAD, SCRIPT, STYLE, TOOLS};
 use crate::input::{open, open_two};
 use crate::refusal::Refusal;
 use std::process::ExitCode;
-use tk_engines::{Form, Parts, Plotted, plot_engine};
+use tk_engines::{Form, Plotted, plot_engine};
+use tk_page::page_parts;
 use tk_words::{FromRead, Source};
 use tk_writers::ToWrite;
 
@@ -18,7 +18,11 @@ pub fn plot_command<'a>(
     claim_file: Option<&'a str>,
     html: bool,
 ) -> Result<ExitCode, Refusal<'a>> {
-    let form = if html { page() } else { Form::Svg };
+    let form = if html {
+        Form::Page(page_parts())
+    } else {
+        Form::Svg
+    };
     let Some(claim_file) = claim_file else {
         return plot_alone(rt, problem_file, form);
     };
@@ -31,16 +35,6 @@ pub fn plot_command<'a>(
         Some(claim_file),
         form,
     )
-}
-
-/// The HTML page, from the files that are embedded in the program.
-fn page() -> Form<'static> {
-    Form::Page(Parts {
-        head: HEAD,
-        style: STYLE,
-        tools: TOOLS,
-        script: SCRIPT,
-    })
 }
 
 /// `plot PROBLEM`, with or without `--html`.
