@@ -62,9 +62,9 @@ pub mod engines {
         ParamKind, Params, ParamsBuilder, Plotted, Progress, RouteFault, RouteProgress, RouteRun,
         RouteVerdict, RouteWatch, SearchOutcome, TourFault, TourOutcome, Unwatched, Verdict, Watch,
         between_engine, between_outcome, check_engine, key_of, matrix_engine, near_engine,
-        plot_engine, read_params, route_check_engine, route_outcome, search_between,
-        search_outcome, search_problem, solve_engine, tour_outcome, write_found,
-        write_route_run_line, write_route_verdict, write_run_line, write_search_lines,
-        write_tour_outcome,
+        plot_engine, read_params, route_check_engine, route_outcome, route_outcome_of,
+        search_between, search_outcome, search_problem, solve_engine, tour_outcome,
+        tour_outcome_of, write_found, write_route_run_line, write_route_verdict, write_run_line,
+        write_search_lines, write_tour_outcome,
     };
 }

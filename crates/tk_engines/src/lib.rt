@@ -1,7 +1,8 @@
 //! The engines of seven subcommands, for any source and sink, and the lines that they write.
 //!
 //! `check_engine`, `info_engine`, `route_check_engine` and `solve_engine` are two halves in a row, and each half is
-//! public: the first reads the texts and returns an outcome, and the second writes it.
+//! public: the first reads the texts and returns an outcome, and the second writes it. `tour_outcome_of` and
+//! `route_outcome_of` are the first half for a problem that has been read, to check many tours or solutions of it.
 //!
 //! An engine reads all of its texts before it writes a byte. If it stops for a fault other than a write fault, it has
 //! written nothing.
@@ -16,13 +17,13 @@ mod route_fault;
 
 pub use between_options::BetweenOptions;
 pub use engines::between::{between_engine, between_outcome, search_between};
-pub use engines::check::{check_engine, tour_outcome};
+pub use engines::check::{check_engine, tour_outcome, tour_outcome_of};
 pub use engines::info::{info_engine, info_outcome};
 pub use engines::matrix::matrix_engine;
 pub use engines::near::near_engine;
 pub use engines::plot::plot_engine;
 pub use engines::plotted::Plotted;
-pub use engines::route_check::{route_check_engine, route_outcome};
+pub use engines::route_check::{route_check_engine, route_outcome, route_outcome_of};
 pub use engines::search::{search_outcome, search_problem};
 pub use engines::solve::{solve_engine, write_found};
 pub use fault::Fault;

@@ -17,8 +17,11 @@ use tk_tour::{Verdict, check};
 use tk_words::Source;
 use tk_writers::Sink;
 
-/// Reads a tour, and checks it against a problem.
-fn read_outcome<T: Source>(
+/// Checks the tour of a text against a problem that has been read, like [`tour_outcome`] on its text.
+///
+/// # Errors
+/// As for `tour_outcome`, without those of the problem text.
+pub fn tour_outcome_of<T: Source>(
     alloc: Global,
     problem: &Problem,
     tour: &mut T,
@@ -50,7 +53,7 @@ pub fn tour_outcome<P: Source, T: Source>(
     ensures unread { IfErr result (BeforeSecond (IsUnread T.Source tour.old tour.new)) }
 {
     match read_problem(alloc, problem) {
-        Ok(problem) => read_outcome(alloc, &problem, tour),
+        Ok(problem) => tour_outcome_of(alloc, &problem, tour),
         Err(fault) => Err(Fault::Problem(fault)),
     }
 }

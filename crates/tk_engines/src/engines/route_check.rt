@@ -39,8 +39,11 @@ fn check_solution<S: Source>(
     }
 }
 
-/// Like `check_solution`, for any problem; `WrongType` if it has no routing.
-fn check_problem<S: Source>(
+/// Checks the routes of a text against a problem that has been read, like [`route_outcome`] on its text.
+///
+/// # Errors
+/// As for `route_outcome`, without those of the problem text.
+pub fn route_outcome_of<S: Source>(
     alloc: Global,
     problem: &Problem,
     solution: &mut S,
@@ -68,7 +71,7 @@ pub fn route_outcome<P: Source, S: Source>(
     ensures unread { IfErr result (BeforeSecond (IsUnread S.Source solution.old solution.new)) }
 {
     match read_problem(alloc, problem) {
-        Ok(problem) => check_problem(alloc, &problem, solution),
+        Ok(problem) => route_outcome_of(alloc, &problem, solution),
         Err(fault) => Err(Fault::Problem(fault)),
     }
 }

@@ -1,8 +1,8 @@
 //! The engine of `check`.
 use crate::engines::given::{AT_THE_TYPE, SQUARE, TOUR, UNSUPPORTED, expect};
 use std::alloc::Global;
-use tk_engines::{Fault, TourOutcome, check_engine, tour_outcome};
-use tk_text::{FromRead, ToWrite};
+use tk_engines::{Fault, TourOutcome, check_engine, tour_outcome, tour_outcome_of};
+use tk_text::{FromRead, ToWrite, read_problem};
 use tk_tour::Verdict;
 
 /// The answer of the engine, and the text that it writes.
@@ -52,4 +52,24 @@ fn finds_the_numbers_of_a_verdict(rt: HostRuntime) {
     assert!(rt; outcome_of(rt.alloc(), TOUR) == Ok(tour));
     let short = TourOutcome::WrongCount { wanted: 4, read: 1 };
     assert!(rt; outcome_of(rt.alloc(), b"TYPE : TOUR\nTOUR_SECTION\n3 -1\n") == Ok(short));
+}
+
+#[test]
+fn checks_tours_of_one_problem(rt: HostRuntime) {
+    let Ok(square) = read_problem(rt.alloc(), &mut FromRead::new(SQUARE)) else {
+        panic!(rt; "the square was refused");
+    };
+    let crossed = TourOutcome::Tour {
+        cities: 4,
+        length: 48,
+    };
+    assert!(rt; tour_outcome_of(rt.alloc(), &square, &mut FromRead::new(TOUR)) == Ok(crossed));
+    let fault = Err(Fault::Tour(AT_THE_TYPE));
+    assert!(rt; tour_outcome_of(rt.alloc(), &square, &mut FromRead::new(UNSUPPORTED)) == fault);
+    let around: &[u8] = b"TYPE : TOUR\nTOUR_SECTION\n1 3 2 4 -1\n";
+    let tour = TourOutcome::Tour {
+        cities: 4,
+        length: 40,
+    };
+    assert!(rt; tour_outcome_of(rt.alloc(), &square, &mut FromRead::new(around)) == Ok(tour));
 }

@@ -1,9 +1,9 @@
 //! The engine of `checksol`.
 use crate::engines::given::{BAKERY, SQUARE, expect};
 use std::alloc::Global;
-use tk_engines::{Fault, route_check_engine};
+use tk_engines::{Fault, route_check_engine, route_outcome_of};
 use tk_routes::RouteVerdict;
-use tk_text::{FromRead, Keyword, TextFault, TextKind, ToWrite};
+use tk_text::{FromRead, Keyword, TextFault, TextKind, ToWrite, read_problem};
 
 /// The answer of the engine, and the text that it writes.
 fn checked(
@@ -51,4 +51,30 @@ fn writes_nothing_on_a_fault(rt: HostRuntime) {
         Err(Fault::WrongType),
         b"",
     );
+}
+
+#[test]
+fn checks_solutions_of_one_problem(rt: HostRuntime) {
+    let Ok(bakery) = read_problem(rt.alloc(), &mut FromRead::new(BAKERY)) else {
+        panic!(rt; "the bakery was refused");
+    };
+    let some: &[u8] = b"Route #1: 1 2\nCost 53\n";
+    let fault = Ok(RouteVerdict::NotServed(3));
+    assert!(rt; route_outcome_of(rt.alloc(), &bakery, &mut FromRead::new(some)) == fault);
+    let all: &[u8] = b"Route #1: 3 2 1 4\nCost 53\n";
+    let valid = RouteVerdict::Valid {
+        routes: 1,
+        cost: 53,
+    };
+    assert!(rt; route_outcome_of(rt.alloc(), &bakery, &mut FromRead::new(all)) == Ok(valid));
+}
+
+#[test]
+fn reports_a_problem_without_routes(rt: HostRuntime) {
+    let Ok(square) = read_problem(rt.alloc(), &mut FromRead::new(SQUARE)) else {
+        panic!(rt; "the square was refused");
+    };
+    let text: &[u8] = b"Route #1: 1 2\nCost 53\n";
+    let misfit = Err(Fault::WrongType);
+    assert!(rt; route_outcome_of(rt.alloc(), &square, &mut FromRead::new(text)) == misfit);
 }

@@ -7,8 +7,8 @@ use Rattle.tk_engines.proofs.engines.check.tour_outcome.Goals as goal
 pub returns-in-Ok-clause-ends : goal.returns-in-Ok-clause-ends
 returns-in-Ok-clause-ends g c =
     problem_read _ _ _ WritesNothing _ (is_read c.in-Ok.ensures.reads)
-    c.read_outcome.result c.read_outcome.ensures.ends
+    c.tour_outcome_of.result c.tour_outcome_of.ensures.ends
 
 pub returns-in-Ok-clause-unread : goal.returns-in-Ok-clause-unread
 returns-in-Ok-clause-unread g c =
-    second_reached _ _ _ WritesNothing _ refl c.read_outcome.result c.read_outcome.ensures.ends
+    second_reached _ _ _ WritesNothing _ refl c.tour_outcome_of.result c.tour_outcome_of.ensures.ends

@@ -6,4 +6,4 @@ use Rattle.tk_engines.proofs.engines.route_check.route_outcome.Goals as goal
 pub returns-in-Ok-clause-ends : goal.returns-in-Ok-clause-ends
 returns-in-Ok-clause-ends g c =
     problem_read _ _ _ WritesNothing _ (is_read c.in-Ok.ensures.reads)
-    c.check_problem.result c.check_problem.ensures.ends
+    c.route_outcome_of.result c.route_outcome_of.ensures.ends

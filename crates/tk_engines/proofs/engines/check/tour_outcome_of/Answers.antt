@@ -2,7 +2,7 @@ use Rattle.std.proofs.Common.{refl}
 use Rattle.tk_problem_text.specs.ProblemOf.{problem_is}
 use Rattle.tk_engines.proofs.Lengths.{outcome_right}
 use Rattle.tk_engines.proofs.TextsRead.{is_read}
-use Rattle.tk_engines.proofs.engines.check.read_outcome.Goals as goal
+use Rattle.tk_engines.proofs.engines.check.tour_outcome_of.Goals as goal
 
 pub returns-in-Ok-check : goal.returns-in-Ok-check
 returns-in-Ok-check g c = record {

@@ -1,7 +1,7 @@
 use Rattle.tk_engines.specs.Engine.{WritesNothing}
 use Rattle.tk_engines.proofs.Ends.{second_reached}
 use Rattle.tk_engines.proofs.RouteChecks.{routing_fits}
-use Rattle.tk_engines.proofs.engines.route_check.check_problem.Goals as goal
+use Rattle.tk_engines.proofs.engines.route_check.route_outcome_of.Goals as goal
 
 pub returns-clause-unread : goal.returns-clause-unread
 returns-clause-unread g c =
