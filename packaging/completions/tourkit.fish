@@ -3,7 +3,7 @@
 complete -c tourkit -s h -l help -d 'Print help'
 complete -c tourkit -n __fish_use_subcommand -s V -l version -d 'Print version'
 complete -c tourkit -n __fish_use_subcommand -l completions -x -a 'bash zsh fish' -d 'print the completions for a shell'
-complete -c tourkit -n __fish_use_subcommand -f -a check -d 'Checks a tour and prints its length'
+complete -c tourkit -n __fish_use_subcommand -f -a check -d 'Checks tours and prints their lengths'
 complete -c tourkit -n __fish_use_subcommand -f -a checksol -d 'Checks the routes of a CVRP and their cost'
 complete -c tourkit -n __fish_use_subcommand -f -a explain -d 'Explains a fault, or what is wrong with a file'
 complete -c tourkit -n __fish_use_subcommand -f -a info -d 'Prints what is known of a problem'
@@ -13,9 +13,9 @@ complete -c tourkit -n __fish_use_subcommand -f -a plot -d 'Draws a problem, and
 complete -c tourkit -n __fish_use_subcommand -f -a solve -d 'Searches for a short tour or for short routes'
 complete -c tourkit -n __fish_use_subcommand -f -a help -d 'Print this message or the help of the given subcommand(s)'
 
-complete -c tourkit -n '__fish_seen_subcommand_from check' -l json -d 'print one JSON object instead of text'
+complete -c tourkit -n '__fish_seen_subcommand_from check' -l json -d 'print one JSON object for each file instead of text'
 
-complete -c tourkit -n '__fish_seen_subcommand_from checksol' -l json -d 'print one JSON object instead of text'
+complete -c tourkit -n '__fish_seen_subcommand_from checksol' -l json -d 'print one JSON object for each file instead of text'
 
 complete -c tourkit -n '__fish_seen_subcommand_from explain; and __fish_is_nth_token 2' -d fault \
     -a 'UnknownKeyword Repeated Missing Unsupported BadNumber OutOfLimit BadNode NotSymmetric Truncated TrailingData

@@ -91,7 +91,12 @@ def cycle_length(problem, cities):
 def check(problem_file, tour_file):
     opened = open_word(problem_file), open_word(tour_file)
     problem = read_file(problem_file, opened[0], read_problem)
-    cities = read_file(tour_file, opened[1], read_tour)
+    return tour_verdict(problem, tour_file, opened[1])
+
+
+def tour_verdict(problem, tour_file, opened):
+    """Returns the line of a tour file, and the status."""
+    cities = read_file(tour_file, opened, read_tour)
     fault = tour_fault(problem.n, cities)
     if fault:
         return fault[1] + "\n", 1
@@ -146,10 +151,21 @@ def matrix(problem_file, form):
 
 def checksol(problem_file, solution_file):
     opened = open_word(problem_file), open_word(solution_file)
-    problem = read_file(problem_file, opened[0], read_problem)
+    problem = read_cvrp(problem_file, opened[0])
+    return solution_verdict(problem, solution_file, opened[1])
+
+
+def read_cvrp(problem_file, opened):
+    """Reads an opened problem, which must be a CVRP."""
+    problem = read_file(problem_file, opened, read_problem)
     if not problem.cvrp:
         raise Refused(f"tourkit: {problem_file}: not a CVRP", 2)
-    routes, cost = read_file(solution_file, opened[1], read_solution)
+    return problem
+
+
+def solution_verdict(problem, solution_file, opened):
+    """Returns the line of a solution file, and the status."""
+    routes, cost = read_file(solution_file, opened, read_solution)
     line = solution_fault(problem, routes, cost)
     if line:
         return line + "\n", 1
@@ -353,6 +369,28 @@ def object_of(line):
     return line
 
 
+def answer_several(command, problem_file, files, as_json):
+    """Returns standard output, standard error and the status of check or checksol with several files."""
+    try:
+        opened = open_word(problem_file)
+        problem = read_cvrp(problem_file, opened) if command == "checksol" else read_file(problem_file, opened, read_problem)
+    except Refused as refused:
+        line, status = refused.args
+        return refusal.object_of(line + "\n") if as_json else b"", line.encode() + b"\n", status
+    judge = solution_verdict if command == "checksol" else tour_verdict
+    out, told, highest = b"", b"", 0
+    for file in files:
+        try:
+            line, status = judge(problem, file, open_word(file))
+            out += refusal.with_file(file, object_of(line).encode()) if as_json else f"{file}: {line}".encode()
+        except Refused as refused:
+            line, status = refused.args
+            out += refusal.with_file(file, refusal.object_of(line + "\n")) if as_json else b""
+            told += line.encode() + b"\n"
+        highest = max(highest, status)
+    return out, told, highest
+
+
 def as_object(words):
     """Returns standard output with --json, standard error and status."""
     out, told, status = answer([*words[:2], "FULL_MATRIX"] if words[0] == "matrix" else words)
@@ -376,8 +414,11 @@ def rows_of(command, lines):
 
 def answer(words):
     """Returns standard output, standard error and status."""
+    plain_words = [word for word in words if word != "--json"]
+    if words[0] in ("check", "checksol") and len(plain_words) > 3:
+        return answer_several(words[0], plain_words[1], plain_words[2:], "--json" in words)
     if "--json" in words:
-        return as_object([word for word in words if word != "--json"])
+        return as_object(plain_words)
     commands = {"check": check, "info": info, "near": near, "matrix": matrix, "checksol": checksol, "plot": plot, "solve": solve}
     if words[0] == "near":
         words = words[:2] + [int(words[3]) if len(words) > 2 else 5]

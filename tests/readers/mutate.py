@@ -214,6 +214,7 @@ def case(random, commands):
     other = {"check": "t", "checksol": "s", "plot": random.choice(["", "s" if cvrp else "t"]), "solve": "x"}.get(command)
     faulty = random.choice(["p", other or "p"]) if random.random() < 0.9 else ""
     files = {"p": text(random, problem(random, n, cvrp), faulty == "p")}
+    first = files["p"]
     if other == "t":
         files["t"] = text(random, tour(random, n), faulty == "t")
     elif other == "s":
@@ -226,7 +227,12 @@ def case(random, commands):
     words = {"info": ["info", "p"], "plot": ["plot", "p"] + [other] * bool(other),
              "near": ["near", "p"] + random.choice([[], ["-k", "1"], ["-k", "3"], ["-k", "100"]]),
              "matrix": ["matrix", "p", random.choice(FORMATS).decode()], "solve": ["solve", "x"]}
-    return words.get(command) or [command, "p", other], files
+    words = words.get(command) or [command, "p", other]
+    if command in ("check", "checksol") and random.random() < 0.2:
+        lines = tour(random, n) if command == "check" else solution(random, n, first)
+        files["u"] = text(random, lines, random.random() < 0.3)
+        words += random.choice([["u"], ["u", other], ["gone", "u"]])
+    return words, files
 
 
 def plane(n, kind=b"EUC_2D", cvrp=False):

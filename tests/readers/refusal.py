@@ -53,6 +53,11 @@ def bytes_of(members, message):
     return json.dumps(refused, separators=(",", ":"), ensure_ascii=False).encode() + b"\n"
 
 
+def with_file(file, text):
+    """Returns the bytes of an object with the name of one of several files as its first member."""
+    return b'{"file":' + json.dumps(file, ensure_ascii=False).encode() + b"," + text.removeprefix(b"{")
+
+
 def printed_for(words, line):
     """Returns what a command with these arguments prints on standard output when it stops with a line on standard error."""
     if "--json" not in words or line.startswith("tourkit: write fault"):

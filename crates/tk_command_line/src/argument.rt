@@ -20,6 +20,8 @@ pub struct Argument {
 pub enum Form {
     /// A positional argument that is required.
     Required,
+    /// A positional argument that is required and can be repeated.
+    Repeated,
     /// A positional argument that can be left out.
     Optional,
     /// `--NAME`
@@ -48,6 +50,14 @@ pub const JSON: Argument = Argument {
     values: ValueParser::Bool,
 };
 
+/// The option that requests one JSON object for each file instead of text.
+pub const JSON_LINES: Argument = Argument {
+    name: "json",
+    help: "print one JSON object for each file instead of text",
+    form: Form::Flag,
+    values: ValueParser::Bool,
+};
+
 impl Argument {
     /// The argument, as clap takes it.
     pub fn arg<'a>(&self, alloc: Global) -> Arg<'a> {
@@ -56,6 +66,7 @@ impl Argument {
             .value_parser(self.values);
         match self.form {
             Form::Required => arg.required(true),
+            Form::Repeated => arg.required(true).num_args(1..),
             Form::Optional => arg,
             Form::Flag => arg.long(self.name).action(ArgAction::SetTrue),
             Form::Long(value) => arg.long(self.name).value_name(value),

@@ -11,16 +11,16 @@ pub const STANDARD: &str = "-";
 /// standard input.
 #[derive(Drop)]
 pub enum Asked<'a> {
-    /// `check PROBLEM TOUR [--json]`
+    /// `check PROBLEM TOUR.. [--json]`
     Check {
         problem: &'a str,
-        tour: &'a str,
+        tours: Vec<&'a str>,
         json: bool,
     },
-    /// `checksol PROBLEM SOLUTION [--json]`
+    /// `checksol PROBLEM SOLUTION.. [--json]`
     Checksol {
         problem: &'a str,
-        solution: &'a str,
+        solutions: Vec<&'a str>,
         json: bool,
     },
     /// `--completions SHELL`
@@ -64,7 +64,7 @@ pub enum Asked<'a> {
 }
 
 impl Asked<'_> {
-    /// Whether one JSON object is requested instead of text.
+    /// Whether JSON is requested instead of text.
     pub fn is_json(&self) -> bool {
         match *self {
             Asked::Check { json, .. }

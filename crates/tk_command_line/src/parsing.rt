@@ -9,7 +9,7 @@ use crate::subcommands::{check, checksol, explain, info, matrix, named, near, pl
 use crate::tips::with_tips;
 use clap::error::ErrorKind;
 use clap::{ArgMatches, Error};
-use std::alloc::Global;
+use std::alloc::{AllocError, Global};
 
 /// The exit status if the arguments are rejected.
 const USAGE: u8 = 2;
@@ -85,7 +85,7 @@ fn asked_of<'a>(
     let Some(subcommand) = named(name) else {
         return Ok(None);
     };
-    let asked = asked_by(subcommand.kind, words);
+    let asked = asked_by(alloc, subcommand.kind, words)?;
     match asked.as_ref().and_then(misfit) {
         Some(message) => Err(refused(alloc, &subcommand, message)?),
         None => Ok(asked),
@@ -95,15 +95,41 @@ fn asked_of<'a>(
 /// The message about arguments that cannot be combined.
 fn misfit(asked: &Asked<'_>) -> Option<&'static str> {
     match asked {
+        Asked::Check { problem, tours, .. } => twice_standard(*problem, tours),
+        Asked::Checksol {
+            problem,
+            solutions,
+            ..
+        } => twice_standard(*problem, solutions),
+        Asked::Plot {
+            problem,
+            claim: Some(claim),
+            ..
+        } => twice_standard(*problem, &[*claim]),
         Asked::Solve {
+            file,
             options: Some(options),
             ..
         } => match start_misfit(options) {
             Some(message) => Some(message),
-            None => file_misfit(asked),
+            None => file_misfit(*file, options),
         },
-        _ => file_misfit(asked),
+        _ => None,
     }
+}
+
+/// The message if a problem file and others contain standard input twice.
+fn twice_standard(problem: &str, others: &[&str]) -> Option<&'static str> {
+    let mut is_named = problem == STANDARD;
+    for other in others {
+        if *other == STANDARD {
+            if is_named {
+                return Some(TWICE_STANDARD);
+            }
+            is_named = true;
+        }
+    }
+    None
 }
 
 /// The message about options that cannot be combined with `--initial-solution`.
@@ -118,26 +144,11 @@ fn start_misfit(options: &SearchOptions<'_>) -> Option<&'static str> {
     }
 }
 
-/// The message about files that cannot be combined: standard input is named twice, or as the output file.
-fn file_misfit(asked: &Asked<'_>) -> Option<&'static str> {
-    let (first, second, written) = match *asked {
-        Asked::Check { problem, tour, .. } => (problem, Some(tour), None),
-        Asked::Checksol {
-            problem,
-            solution,
-            ..
-        } => (problem, Some(solution), None),
-        Asked::Plot { problem, claim, .. } => (problem, claim, None),
-        Asked::Solve {
-            file,
-            options: Some(options),
-            ..
-        } => (file, options.initial(), options.output),
-        _ => return None,
-    };
-    if first == STANDARD && second == Some(STANDARD) {
+/// The message about files of a search that cannot be combined: standard input is named twice, or as the output file.
+fn file_misfit(file: &str, options: &SearchOptions<'_>) -> Option<&'static str> {
+    if file == STANDARD && options.initial() == Some(STANDARD) {
         Some(TWICE_STANDARD)
-    } else if written == Some(STANDARD) {
+    } else if options.output == Some(STANDARD) {
         Some(STANDARD_OUTPUT)
     } else {
         None
@@ -145,15 +156,19 @@ fn file_misfit(asked: &Asked<'_>) -> Option<&'static str> {
 }
 
 /// The request of the arguments of a subcommand.
-fn asked_by<'a>(kind: Kind, words: &ArgMatches<'a>) -> Option<Asked<'a>> {
+fn asked_by<'a>(
+    alloc: Global,
+    kind: Kind,
+    words: &ArgMatches<'a>,
+) -> Result<Option<Asked<'a>>, AllocError> {
     match kind {
-        Kind::Check => check::asked(words),
-        Kind::Checksol => checksol::asked(words),
-        Kind::Explain => explain::asked(words),
-        Kind::Info => info::asked(words),
-        Kind::Matrix => matrix::asked(words),
-        Kind::Near => near::asked(words),
-        Kind::Plot => plot::asked(words),
-        Kind::Solve => solve::asked(words),
+        Kind::Check => check::asked(alloc, words),
+        Kind::Checksol => checksol::asked(alloc, words),
+        Kind::Explain => Ok(explain::asked(words)),
+        Kind::Info => Ok(info::asked(words)),
+        Kind::Matrix => Ok(matrix::asked(words)),
+        Kind::Near => Ok(near::asked(words)),
+        Kind::Plot => Ok(plot::asked(words)),
+        Kind::Solve => Ok(solve::asked(words)),
     }
 }

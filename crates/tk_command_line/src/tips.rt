@@ -102,7 +102,7 @@ fn is_named(argument: &Argument, word: &str) -> bool {
         Form::Flag | Form::Long(_) => name == argument.name,
         Form::File(letter) => name == argument.name || is_letter(name, letter),
         Form::Number(letter, _) => is_letter(name, letter),
-        Form::Required | Form::Optional => false,
+        Form::Required | Form::Repeated | Form::Optional => false,
     }
 }
 
@@ -116,6 +116,6 @@ fn push_name(text: &mut String, argument: &Argument) -> Result<(), AllocError> {
     match argument.form {
         Form::Flag | Form::Long(_) | Form::File(_) => write!(text, "--{}", argument.name),
         Form::Number(letter, _) => write!(text, "-{letter}"),
-        Form::Required | Form::Optional => text.push_str(argument.name),
+        Form::Required | Form::Repeated | Form::Optional => text.push_str(argument.name),
     }
 }

@@ -39,14 +39,14 @@ fn run<'a>(rt: &'a HostRuntime, asked: Asked<'a>) -> Result<ExitCode, Refusal<'a
     match asked {
         Asked::Check {
             problem,
-            tour,
+            tours,
             json,
-        } => check_command(rt, problem, tour, json),
+        } => check_command(rt, problem, &tours, json),
         Asked::Checksol {
             problem,
-            solution,
+            solutions,
             json,
-        } => checksol_command(rt, problem, solution, json),
+        } => checksol_command(rt, problem, &solutions, json),
         Asked::Completions { shell } => completions_command(rt, shell),
         Asked::Explain { what, line } => explain_command(rt, what, line),
         Asked::Info { problem, json } => info_command(rt, problem, json),

@@ -5,6 +5,9 @@ use std::fs::{self, File};
 use std::io::{self, Read, Stdin};
 use std::os::fd::AsFd;
 use tk_command_line::STANDARD;
+use tk_problem::Problem;
+use tk_problem_text::read_problem;
+use tk_words::FromRead;
 
 /// The path of standard input.
 const STANDARD_PATH: &str = "/dev/stdin";
@@ -66,6 +69,18 @@ pub fn open_file<'a>(rt: &HostRuntime, name: &'a str) -> Result<Input, Refusal<'
     match File::open(rt, name) {
         Ok(file) => Ok(Input::File(file)),
         Err(_) => Err(Refusal::Unopened(name)),
+    }
+}
+
+/// Opens a problem file, reads it, and closes it.
+///
+/// # Errors
+/// Why there is no problem.
+pub fn problem_in<'a>(rt: &HostRuntime, file: &'a str) -> Result<Problem, Refusal<'a>> {
+    let input = open(rt, file)?;
+    match read_problem(rt.alloc(), &mut FromRead::new(input)) {
+        Ok(problem) => Ok(problem),
+        Err(fault) => Err(Refusal::Text(file, fault)),
     }
 }
 

@@ -3,9 +3,12 @@ use serde::Serialize;
 use std::alloc::{AllocError, Global};
 use tk_engines::{FoundRoutes, FoundTour, Key, RouteVerdict, RunReport, TourOutcome};
 
-/// The verdict on a tour or a solution: whether it has no fault, and its values or those of its fault.
+/// The verdict on a tour or a solution: its file if it is one of several, whether it has no fault, and its values or
+/// those of its fault.
 #[derive(Drop, Serialize)]
-pub struct Judgement<T> {
+pub struct Judgement<'a, T> {
+    #[serde(skip_serializing_if = "Option::is_none")]
+    pub file: Option<&'a str>,
     pub valid: bool,
     #[serde(flatten)]
     pub values: T,

@@ -1,5 +1,6 @@
 //! Prints results on standard output as JSON.
 use crate::objects::{Judgement, ListFault};
+use crate::shown::shown_on_output;
 use serde::Serialize;
 use serde_json::to_string;
 use std::alloc::AllocError;
@@ -49,6 +50,20 @@ pub fn print_line<T: Display>(rt: &HostRuntime, value: &T) -> Result<(), Unprint
     print_text(rt, &text)
 }
 
+/// Prints the name of a file and a colon, before the line of one of several files.
+///
+/// # Errors
+/// Why it was not printed.
+pub fn print_name(rt: &HostRuntime, file: Option<&str>) -> Result<(), Unprinted> {
+    let Some(file) = file else {
+        return Ok(());
+    };
+    match print!(rt; "{}: ", shown_on_output(rt, file)) {
+        Ok(()) => Ok(()),
+        Err(_) => Err(Unprinted::Unwritten),
+    }
+}
+
 /// Prints a text.
 fn print_text(rt: &HostRuntime, text: &str) -> Result<(), Unprinted> {
     match rt.stdout().write_all(text.as_bytes()) {
@@ -57,18 +72,21 @@ fn print_text(rt: &HostRuntime, text: &str) -> Result<(), Unprinted> {
     }
 }
 
-/// Prints the verdict on a list as a JSON object: that it is valid, with its values, or its fault.
+/// Prints the verdict on a list as a JSON object: its file if it is one of several, and that it is valid, with its
+/// values, or its fault.
 ///
 /// # Errors
 /// Why it was not printed.
 pub fn print_judged<T: Serialize + Drop>(
     rt: &HostRuntime,
+    file: Option<&str>,
     judged: Result<T, ListFault>,
 ) -> Result<(), Unprinted> {
     match judged {
         Ok(values) => print_json(
             rt,
             &Judgement {
+                file,
                 valid: true,
                 values,
             },
@@ -76,6 +94,7 @@ pub fn print_judged<T: Serialize + Drop>(
         Err(fault) => print_json(
             rt,
             &Judgement {
+                file,
                 valid: false,
                 values: fault,
             },

@@ -8,9 +8,11 @@ use tk_params::ParamKind;
 use tk_tour::TourFault;
 use tk_words::TextKind;
 
-/// The object of a refusal.
+/// The object of a refusal, with its file if it is one of several.
 #[derive(Drop, Serialize)]
 pub struct RefusalObject<'a> {
+    #[serde(skip_serializing_if = "Option::is_none")]
+    file: Option<&'a str>,
     refused: Refused<'a>,
 }
 
@@ -71,13 +73,18 @@ struct Named {
 }
 
 impl<'a> RefusalObject<'a> {
-    /// The object of a refusal.
+    /// The object of a refusal, with the name of its file if it is one of several.
     ///
     /// # Errors
     /// `AllocError` if memory runs out.
-    pub fn of(rt: &HostRuntime, refusal: &Refusal<'a>) -> Result<RefusalObject<'a>, AllocError> {
+    pub fn of(
+        rt: &HostRuntime,
+        file: Option<&'a str>,
+        refusal: &Refusal<'a>,
+    ) -> Result<RefusalObject<'a>, AllocError> {
         let named = fault_of(refusal);
         Ok(RefusalObject {
+            file,
             refused: Refused {
                 file: refusal.file(),
                 line: line_of(refusal),

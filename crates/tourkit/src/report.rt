@@ -1,6 +1,6 @@
 //! Reports refusals and notes on standard error.
 use crate::message::message_of;
-use crate::printed::print_json;
+use crate::printed::{Unprinted, print_json};
 use crate::refusal::{Refusal, USAGE};
 use crate::refusal_object::RefusalObject;
 use crate::search::Search;
@@ -29,11 +29,18 @@ fn print_object(rt: &HostRuntime, refusal: &Refusal<'_>) {
             let _ = rt.stdout().write_all(NO_MEMORY);
         }
         _ => {
-            if let Ok(object) = RefusalObject::of(rt, refusal) {
-                let _ = print_json(rt, &object);
-            }
+            let _ = print_refusal(rt, None, refusal);
         }
     }
+}
+
+/// Prints the object of a refusal, with the name of its file if it is one of several.
+fn print_refusal<'a>(
+    rt: &HostRuntime,
+    file: Option<&'a str>,
+    refusal: &Refusal<'a>,
+) -> Result<(), Unprinted> {
+    print_json(rt, &RefusalObject::of(rt, file, refusal)?)
 }
 
 /// The exit status of a command. If it stopped, this is reported first.
@@ -44,7 +51,41 @@ pub fn end(rt: &HostRuntime, ended: Result<ExitCode, Refusal<'_>>, json: bool) -
     }
 }
 
-/// Reports why a command stops in a message on standard error, and on a terminal in a tip. Returns the exit status.
+/// The exit status of one of several files. If the file was refused, this is reported, and the command continues.
+///
+/// # Errors
+/// Why the command stops: the refusal is not about a file, or its object was not printed.
+pub fn end_one<'a>(
+    rt: &HostRuntime,
+    file: &'a str,
+    ended: Result<u8, Refusal<'a>>,
+    json: bool,
+) -> Result<u8, Refusal<'a>> {
+    match ended {
+        Ok(status) => Ok(status),
+        Err(refusal) if refusal.file().is_some() => refuse_one(rt, file, &refusal, json),
+        Err(refusal) => Err(refusal),
+    }
+}
+
+/// Reports why one of several files is refused, and returns the exit status.
+fn refuse_one<'a>(
+    rt: &HostRuntime,
+    file: &'a str,
+    refusal: &Refusal<'a>,
+    json: bool,
+) -> Result<u8, Refusal<'a>> {
+    let printed = if json {
+        print_refusal(rt, Some(file), refusal)
+    } else {
+        Ok(())
+    };
+    let _ = tell(rt, refusal);
+    printed?;
+    Ok(refusal.status())
+}
+
+/// Reports a refusal in a message on standard error, and on a terminal in a tip. Returns the exit status.
 pub fn tell(rt: &HostRuntime, refusal: &Refusal<'_>) -> ExitCode {
     if !matches!(refusal, Refusal::NoRequest(_)) {
         let _ = eprintln!(rt; "tourkit: {}", message_of(rt, refusal));

@@ -19,7 +19,7 @@ pub fn shown_name<'a>(rt: &HostRuntime, name: &'a str) -> ShownName<'a> {
     }
 }
 
-/// A name as a page on standard output shows it, with escapes by the same rules.
+/// A name as standard output shows it, with escapes by the same rules.
 pub fn shown_on_output<'a>(rt: &HostRuntime, name: &'a str) -> ShownName<'a> {
     ShownName {
         name,

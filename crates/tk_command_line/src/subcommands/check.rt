@@ -1,23 +1,26 @@
 //! The arguments of `check`.
 
-use crate::argument::{Argument, Form, JSON, PROBLEM};
+use crate::argument::{Argument, Form, JSON_LINES, PROBLEM};
 use crate::asked::Asked;
 use crate::subcommand::{Kind, Subcommand};
 use clap::ArgMatches;
 use clap::builder::ValueParser;
+use std::alloc::{AllocError, Global};
 
 /// The text at the end of `check --help`.
-const HELP: &str = "Reads PROBLEM and TOUR; one of them may be -, for standard input.
-Prints the length of the tour, or the first fault of the list.
+const HELP: &str = "Reads PROBLEM and each TOUR; one of these files may be -, for standard input.
+Prints the length of the tour, or the first fault of the list. If there are several tours, each line begins with the
+name of the file, and a TOUR that is invalid or cannot be read is reported on standard error.
 
-Exit status:
+Exit status, the highest one if there are several tours:
   0  TOUR is a tour of PROBLEM
   1  TOUR is not a tour of PROBLEM
   2  the arguments are wrong, or a file is invalid
   3  a file cannot be read, output cannot be written, or memory has run out
 
-Example:
-  tourkit check examples/tri.tsp examples/tri.tour";
+Examples:
+  tourkit check examples/tri.tsp examples/tri.tour
+  tourkit check examples/board.tsp *.tour";
 
 /// The arguments of the subcommand.
 static ARGUMENTS: [Argument; 3] = [
@@ -25,10 +28,10 @@ static ARGUMENTS: [Argument; 3] = [
     Argument {
         name: "TOUR",
         help: "a TSPLIB tour file, or - for standard input",
-        form: Form::Required,
+        form: Form::Repeated,
         values: ValueParser::String,
     },
-    JSON,
+    JSON_LINES,
 ];
 
 /// The subcommand `check`.
@@ -37,17 +40,23 @@ pub fn subcommand() -> Subcommand {
         kind: Kind::Check,
         name: "check",
         called: "tourkit check",
-        about: "Checks a tour and prints its length",
+        about: "Checks tours and prints their lengths",
         more: HELP,
         arguments: &ARGUMENTS,
     }
 }
 
 /// The request that these arguments make.
-pub fn asked<'a>(words: &ArgMatches<'a>) -> Option<Asked<'a>> {
-    Some(Asked::Check {
-        problem: words.get_str("PROBLEM")?,
-        tour: words.get_str("TOUR")?,
-        json: words.get_flag("json"),
-    })
+///
+/// # Errors
+/// `AllocError` if memory runs out.
+pub fn asked<'a>(alloc: Global, words: &ArgMatches<'a>) -> Result<Option<Asked<'a>>, AllocError> {
+    match (words.get_str("PROBLEM"), words.get_strs("TOUR")) {
+        (Some(problem), Some(tours)) => Ok(Some(Asked::Check {
+            problem,
+            tours: tours.to_vec(alloc)?,
+            json: words.get_flag("json"),
+        })),
+        _ => Ok(None),
+    }
 }

@@ -1,23 +1,27 @@
 //! The arguments of `checksol`.
 
-use crate::argument::{Argument, Form, JSON, PROBLEM};
+use crate::argument::{Argument, Form, JSON_LINES, PROBLEM};
 use crate::asked::Asked;
 use crate::subcommand::{Kind, Subcommand};
 use clap::ArgMatches;
 use clap::builder::ValueParser;
+use std::alloc::{AllocError, Global};
 
 /// The text at the end of `checksol --help`.
-const HELP: &str = "Reads PROBLEM and SOLUTION; one of them may be -, for standard input.
-Prints the number of routes and their cost, or their first fault.
+const HELP: &str =
+    "Reads PROBLEM and each SOLUTION; one of these files may be -, for standard input.
+Prints the number of routes and their cost, or their first fault. If there are several solutions, each line begins with
+the name of the file, and a SOLUTION that is invalid or cannot be read is reported on standard error.
 
-Exit status:
+Exit status, the highest one if there are several solutions:
   0  the routes of SOLUTION are valid, and so is their cost
   1  the routes or their cost are wrong
   2  the arguments are wrong, a file is invalid, or PROBLEM is not a CVRP
   3  a file cannot be read, output cannot be written, or memory has run out
 
-Example:
-  tourkit checksol examples/bakery.vrp examples/bakery-plan.sol";
+Examples:
+  tourkit checksol examples/bakery.vrp examples/bakery-plan.sol
+  tourkit checksol examples/bakery.vrp *.sol";
 
 /// The arguments of the subcommand.
 static ARGUMENTS: [Argument; 3] = [
@@ -25,10 +29,10 @@ static ARGUMENTS: [Argument; 3] = [
     Argument {
         name: "SOLUTION",
         help: "a CVRPLIB solution file, or - for standard input",
-        form: Form::Required,
+        form: Form::Repeated,
         values: ValueParser::String,
     },
-    JSON,
+    JSON_LINES,
 ];
 
 /// The subcommand `checksol`.
@@ -44,10 +48,16 @@ pub fn subcommand() -> Subcommand {
 }
 
 /// The request that these arguments make.
-pub fn asked<'a>(words: &ArgMatches<'a>) -> Option<Asked<'a>> {
-    Some(Asked::Checksol {
-        problem: words.get_str("PROBLEM")?,
-        solution: words.get_str("SOLUTION")?,
-        json: words.get_flag("json"),
-    })
+///
+/// # Errors
+/// `AllocError` if memory runs out.
+pub fn asked<'a>(alloc: Global, words: &ArgMatches<'a>) -> Result<Option<Asked<'a>>, AllocError> {
+    match (words.get_str("PROBLEM"), words.get_strs("SOLUTION")) {
+        (Some(problem), Some(solutions)) => Ok(Some(Asked::Checksol {
+            problem,
+            solutions: solutions.to_vec(alloc)?,
+            json: words.get_flag("json"),
+        })),
+        _ => Ok(None),
+    }
 }

@@ -74,7 +74,7 @@ fn draw<'a, P: Source, C: Source>(
         &mut out,
         &mut told,
     ) {
-        Ok(plotted) => Ok(status_of(plotted)),
+        Ok(plotted) => Ok(ExitCode::from(status_of(plotted))),
         Err(fault) => {
             let claim_file = claim_file.unwrap_or(problem_file);
             Err(Refusal::stopped_by_claim(problem_file, claim_file, &fault))
@@ -83,9 +83,9 @@ fn draw<'a, P: Source, C: Source>(
 }
 
 /// The exit status: 1 if the tour or the routes have a fault, otherwise 0.
-fn status_of(plotted: Plotted) -> ExitCode {
+fn status_of(plotted: Plotted) -> u8 {
     match plotted {
-        Plotted::Cities => ExitCode::SUCCESS,
+        Plotted::Cities => 0,
         Plotted::Tour(verdict) => check::status_of(verdict),
         Plotted::Routes(verdict) => checksol::status_of(verdict),
     }

@@ -98,7 +98,7 @@ _tourkit() {
     local curcontext=$curcontext state line
     local -a commands help
     commands=(
-        'check:Checks a tour and prints its length'
+        'check:Checks tours and prints their lengths'
         'checksol:Checks the routes of a CVRP and their cost'
         'explain:Explains a fault, or what is wrong with a file'
         'info:Prints what is known of a problem'
@@ -120,13 +120,13 @@ _tourkit() {
     case $words[1] in
         (check)
             _arguments -s $help \
-                '--json[print one JSON object instead of text]' \
-                '1:problem:_files' '2:tour:_files'
+                '--json[print one JSON object for each file instead of text]' \
+                '1:problem:_files' '*:tour:_files'
             ;;
         (checksol)
             _arguments -s $help \
-                '--json[print one JSON object instead of text]' \
-                '1:problem:_files' '2:solution:_files'
+                '--json[print one JSON object for each file instead of text]' \
+                '1:problem:_files' '*:solution:_files'
             ;;
         (explain)
             _arguments -s $help '1:fault or file:_tourkit_what' '2:line: '
@@ -192,7 +192,7 @@ pub static FISH: &[u8] = br#"# Completion for tourkit in fish. By default, fish 
 complete -c tourkit -s h -l help -d 'Print help'
 complete -c tourkit -n __fish_use_subcommand -s V -l version -d 'Print version'
 complete -c tourkit -n __fish_use_subcommand -l completions -x -a 'bash zsh fish' -d 'print the completions for a shell'
-complete -c tourkit -n __fish_use_subcommand -f -a check -d 'Checks a tour and prints its length'
+complete -c tourkit -n __fish_use_subcommand -f -a check -d 'Checks tours and prints their lengths'
 complete -c tourkit -n __fish_use_subcommand -f -a checksol -d 'Checks the routes of a CVRP and their cost'
 complete -c tourkit -n __fish_use_subcommand -f -a explain -d 'Explains a fault, or what is wrong with a file'
 complete -c tourkit -n __fish_use_subcommand -f -a info -d 'Prints what is known of a problem'
@@ -202,9 +202,9 @@ complete -c tourkit -n __fish_use_subcommand -f -a plot -d 'Draws a problem, and
 complete -c tourkit -n __fish_use_subcommand -f -a solve -d 'Searches for a short tour or for short routes'
 complete -c tourkit -n __fish_use_subcommand -f -a help -d 'Print this message or the help of the given subcommand(s)'
 
-complete -c tourkit -n '__fish_seen_subcommand_from check' -l json -d 'print one JSON object instead of text'
+complete -c tourkit -n '__fish_seen_subcommand_from check' -l json -d 'print one JSON object for each file instead of text'
 
-complete -c tourkit -n '__fish_seen_subcommand_from checksol' -l json -d 'print one JSON object instead of text'
+complete -c tourkit -n '__fish_seen_subcommand_from checksol' -l json -d 'print one JSON object for each file instead of text'
 
 complete -c tourkit -n '__fish_seen_subcommand_from explain; and __fish_is_nth_token 2' -d fault \
     -a 'UnknownKeyword Repeated Missing Unsupported BadNumber OutOfLimit BadNode NotSymmetric Truncated TrailingData
