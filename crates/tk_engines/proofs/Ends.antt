@@ -1,10 +1,11 @@
 -- How an engine ends, by how it ends once its texts are read.
 use Rattle.std.proofs.Common.{◌≡◌, None, Result, Ok, Err, refl, subst, sym}
-use Rattle.std.specs.Prelude.{IfErr}
+use Rattle.std.specs.Prelude.{IfErr, OnErr}
 use Rattle.tk_problem_text.specs.Problem.{ProblemIs}
-use Rattle.tk_engines.specs.Engine.{AreRead, BeforeSecond, Ends, EndsByProblem, HasRead, IsGiven, IsMisfit}
+use Rattle.tk_writers.specs.declared.output.pen.WriteFault.{WriteFault}
+use Rattle.tk_engines.specs.Engine.{AreRead, AtWrite, BeforeSecond, Ends, EndsByProblem, HasRead, IsGiven, IsMisfit}
 use Rattle.tk_engines.specs.Engine.{IsSecondRefused, Reading, Task, Writing, WritesNothing}
-use Rattle.tk_engines.specs.Engine.{written_as}
+use Rattle.tk_engines.specs.Engine.{write_end, written_as}
 use Rattle.tk_engines.specs.declared.fault.Fault.{Fault}
 use Rattle.tk_engines.specs.declared.fault.Fault.TheVariants as faults
 
@@ -111,3 +112,32 @@ module _ {B O R T : Type 0} (task : Task B O (Unit {0})) (answer_to : O → R) (
         gives = (outcome, h.gives, refl, refl);
         written = written;
       }
+
+-- the output is given, and its writer ended
+pub ended : {B T : Type 0} (task : Task B (Unit {0}) T) (Problem : Reading ProblemIs) (Second : Reading B)
+    (Writes : Writing T) (text : T)
+    → ((Written : T → Type 0) → Written text → IsGiven task Problem (λ _. Second) Written tt)
+    → (w : Result (Unit {0}) WriteFault) → Writes w text → (r : Result (Unit {0}) Fault) → r ≡ write_end w
+    → Ends task Problem Second Writes r
+ended task Problem Second Writes text given (Ok u) written r is = rw is (given (Writes (Ok tt)) written)
+ended task Problem Second Writes text given (Err f) written r is = rw is (tt, given (Writes (Err f)) written)
+
+-- an outcome was found, and its writer ended
+pub ends_as : {B O T : Type 0} (task : Task B O (Unit {0})) (text_of : O → T) (Problem : Reading ProblemIs)
+    (Second : Reading B) (Writes : Writing T) (outcome : O) → Ends task Problem Second WritesNothing (Ok outcome)
+    → (w : Result (Unit {0}) WriteFault) → Writes w (text_of outcome) → (r : Result (Unit {0}) Fault)
+    → r ≡ write_end w → Ends (written_as task (λ _. tt) text_of) Problem Second Writes r
+ends_as task text_of Problem Second Writes outcome h w written r is =
+    ended (written_as task (λ _. tt) text_of) Problem Second Writes (text_of outcome)
+    (λ Written. given_as task (λ _. tt) text_of Problem Second Written outcome h) w written r is
+
+-- what is true of each write fault
+pub if_unwritten : (P : Fault → Type 0) → ((f : WriteFault) → P (faults.Write f)) → (w : Result (Unit {0}) WriteFault)
+    (r : Result (Unit {0}) Fault) → r ≡ write_end w → IfErr r P
+if_unwritten P each (Ok u) r is = rw is tt
+if_unwritten P each (Err f) r is = rw is (each f)
+
+pub failed_as : (P : Type 0) (w : Result (Unit {0}) WriteFault) (r : Result (Unit {0}) Fault) → r ≡ write_end w →
+    OnErr w P → IfErr r (AtWrite P)
+failed_as P (Ok u) r is h = rw is tt
+failed_as P (Err f) r is h = rw is h

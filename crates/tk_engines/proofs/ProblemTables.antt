@@ -1,7 +1,7 @@
 -- The table of a problem has the distances that its text says.
-use Rattle.std.proofs.Common.{◌≡◌, ℕ, ◌-◌, ◌≤◌, min, Option, Some, None, Result, Ok, Err, ap, ◌∙◌, subst, arith, pos}
+use Rattle.std.proofs.Common.{◌≡◌, ℕ, ◌-◌, ◌≤◌, min, Option, Some, None, ap, ◌∙◌, subst, arith, pos}
 use Rattle.std.proofs.lemmas.Bool.{le-ltb}
-use Rattle.std.specs.Prelude.{Bool, IfOk, if◌then◌else◌}
+use Rattle.std.specs.Prelude.{Bool, if◌then◌else◌}
 use Rattle.tk_problem.specs.declared.limits.TheConstants.{TABLE_LIMIT}
 use Rattle.tk_near.specs.Near.{NearLists, AreNearest, AreNearLists}
 use Rattle.tk_distance.specs.Cities.{IsCity}
@@ -38,16 +38,14 @@ GivesTable-table t p size is = record {
   gives = λ a b r _ _ _ _ h. h ∙ ap (λ d. pos (d a b)) (distances_read (table_distance t) p.weights is);
 }
 
-pub IsNearOf-table : {E : Type 0} (t : Table) (p : Problem) (k width : ℕ) (r : Result NearLists E) → table_size t ≡ p.n
+pub IsNearOf-table : (t : Table) (p : Problem) (k width : ℕ) (v : NearLists) → table_size t ≡ p.n
     → ((a b : ℕ) → table_distance t a b ≡ problem_distance p.weights a b) → width ≡ min k (p.n - 1)
-    → IfOk r (AreNearLists (table_distance t) (table_size t) width)
-    → IfOk r (λ v. IsNearOf (problem_is p) k v)
-IsNearOf-table t p k width (Ok v) same is most lists = record {
+    → AreNearLists (table_distance t) (table_size t) width v → IsNearOf (problem_is p) k v
+IsNearOf-table t p k width v same is most lists = record {
   size = lists.size ∙ same;
   width = lists.width ∙ most;
   near = subst (λ (d : ℕ → ℕ → ℕ). AreNearest d v) (distances_read (table_distance t) p.weights is) lists.near;
 }
-IsNearOf-table t p k width (Err e) same is most lists = tt
 
 abbrev large_by : Bool → Option Fault
 large_by b = if b then Some TooLarge else None

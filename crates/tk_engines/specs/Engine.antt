@@ -6,6 +6,7 @@
 --     HasRead value      the contents of a text, once it has been read
 --     Ends task Problem Second Writes result      the stage that was reached, and what is known there
 --     written_as task answer_to text_of      the task whose outcome is written
+--     write_end written      the end of an engine, by that of its writer
 --     EndsByProblem      like Ends, but the problem decides how the second text is read
 --     BeforeSecond, UnlessWrite, AtWrite      a fact that is true at some of the stages
 use Rattle.std.specs.Prelude.{◌≡◌, ◌≢◌, ℕ, Bool, true, List, Option, Some, None, Result, Ok, Err}
@@ -104,6 +105,11 @@ written_as {O = O} task answer_to text_of = record {
   Gives = λ problem second answer text.
       (outcome : O) × task.Gives problem second outcome tt × (answer ≡ answer_to outcome) × (text ≡ text_of outcome);
 }
+
+-- the end of an engine, which a fault of a write stops
+abbrev pub write_end : Result (Unit {0}) WriteFault → Result (Unit {0}) Fault
+write_end (Ok _) = Ok tt
+write_end (Err f) = Err (faults.Write f)
 
 -- any second text fits the problem
 abbrev pub NoClash : {B : Type 0} → ProblemIs → B → Option Fault → Type 0

@@ -1,9 +1,12 @@
 -- The matrix of a problem.
-use Rattle.std.specs.Prelude.{◌≡◌, ℕ, false, List, Option, Some, None, nat_lt, if◌then◌else◌}
+use Rattle.std.specs.Prelude.{◌≡◌, ◌≤◌, ℕ, false, List, Option, Some, None, nat_lt, if◌then◌else◌}
 use Rattle.tk_problem.specs.declared.limits.TheConstants.{TABLE_LIMIT}
+use Rattle.tk_problem.specs.declared.problem.Problem.{Problem}
 use Rattle.tk_problem.specs.declared.weights.Format.{Format}
 use Rattle.tk_writers.specs.MatrixText.{matrix_text}
+use Rattle.tk_problem_text.specs.Names.{IsName}
 use Rattle.tk_problem_text.specs.Problem.{ProblemIs, Lower, problem_texts}
+use Rattle.tk_problem_text.specs.ProblemOf.{problem_is}
 use Rattle.tk_writers.specs.ReadBack.{IsReadBackAs, lower_triangle}
 use Rattle.tk_engines.specs.ReadProblems.{read_distance}
 use Rattle.tk_engines.specs.Engine.{Task, NoClash}
@@ -30,6 +33,21 @@ pub record IsMatrixText (format : Format) (p : ProblemIs) (text : List ℕ) : Ty
 -- a matrix has at most 5,000 nodes
 abbrev pub too_large : ProblemIs → Option Fault
 too_large p = if nat_lt TABLE_LIMIT p.n then Some TooLarge else None
+
+-- the problem that was read, if its matrix can be written
+pub record HasMatrix (p : ProblemIs) (problem : Problem) : Type 0 where
+  pub is : problem_is problem ≡ p
+  pub few : problem.n ≤ TABLE_LIMIT
+  pub named : IsName problem.name.items
+
+-- the task of reading such a problem, which takes no memory
+abbrev pub matrix_outcome_task : Task (Unit {0}) Problem (Unit {0})
+matrix_outcome_task = record {
+  misfit = too_large;
+  IsClash = NoClash;
+  takes_memory = false;
+  Gives = λ p _ problem _. HasMatrix p problem;
+}
 
 -- the task of writing the matrix of a problem, which takes no memory
 abbrev pub matrix_task : Format → Task (Unit {0}) (Unit {0}) (List ℕ)

@@ -1,11 +1,11 @@
--- The text of a problem's near lists.
+-- The near lists of a problem, and their text.
 use Rattle.std.specs.Prelude.{◌≡◌, ℕ, ◌-◌, true, min, List, None, flat_map}
 use Rattle.std.specs.List.{range_with_len}
 use Rattle.tk_near.specs.Near.{NearLists, AreNearest, near_of}
 use Rattle.tk_problem_text.specs.Problem.{ProblemIs}
 use Rattle.tk_writers.specs.Written.{near_line}
 use Rattle.tk_engines.specs.ReadProblems.{read_distance}
-use Rattle.tk_engines.specs.Engine.{Task, NoClash}
+use Rattle.tk_engines.specs.Engine.{NoClash, Task, written_as}
 
 -- a line for each city
 abbrev pub near_text : NearLists → List ℕ
@@ -17,9 +17,11 @@ pub record IsNearOf (p : ProblemIs) (k : ℕ) (v : NearLists) : Type 0 where
   pub width : v.width ≡ min k (p.n - 1)
   pub near : AreNearest (read_distance p.weights) v
 
-abbrev pub IsNearText : ℕ → ProblemIs → List ℕ → Type 0
-IsNearText k p text = (v : NearLists) × IsNearOf p k v × (text ≡ near_text v)
+-- the task of finding the near lists of a problem, which any problem fits
+abbrev pub near_outcome_task : ℕ → Task (Unit {0}) NearLists (Unit {0})
+near_outcome_task k =
+    record { misfit = λ _. None; IsClash = NoClash; takes_memory = true; Gives = λ p _ v _. IsNearOf p k v }
 
--- the task of writing the near lists of a problem, which any problem fits
+-- the task of writing them
 abbrev pub near_task : ℕ → Task (Unit {0}) (Unit {0}) (List ℕ)
-near_task k = record { misfit = λ _. None; IsClash = NoClash; takes_memory = true; Gives = λ p _ _. IsNearText k p }
+near_task k = written_as (near_outcome_task k) (λ _. tt) near_text

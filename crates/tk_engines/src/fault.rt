@@ -1,4 +1,7 @@
 //! Why an engine stopped.
+ghost use Rattle.std.specs.Prelude.{◌≡◌};
+ghost use Rattle.tk_engines.specs.Engine.{write_end};
+
 use crate::route_fault::RouteFault;
 use thiserror::Error;
 use tk_params::Key;
@@ -42,4 +45,14 @@ pub enum Fault {
     /// The problem has explicit weights and no coordinates, so its cities cannot be drawn.
     #[error("no coordinates")]
     NoPlaces,
+}
+
+/// The end of an engine that has written its outcome.
+pub(crate) fn end_of(written: Result<(), WriteFault>) -> Result<(), Fault>
+    ensures { result ≡ write_end written }
+{
+    match written {
+        Ok(()) => Ok(()),
+        Err(fault) => Err(Fault::Write(fault)),
+    }
 }

@@ -1,8 +1,8 @@
 //! The engines of seven subcommands, for any source and sink, and the lines that they write.
 //!
-//! `check_engine`, `info_engine`, `route_check_engine` and `solve_engine` are two halves in a row, and each half is
-//! public: the first reads the texts and returns an outcome, and the second writes it. `tour_outcome_of` and
-//! `route_outcome_of` are the first half for a problem that has been read, to check many tours or solutions of it.
+//! All engines except `plot_engine` are two halves in a row, and each half is public: the first reads the texts and
+//! returns an outcome, and the second writes it. `tour_outcome_of` and `route_outcome_of` are the first half for a
+//! problem that has been read, to check many tours or solutions of it.
 //!
 //! An engine reads all of its texts before it writes a byte. If it stops for a fault other than a write fault, it has
 //! written nothing.
@@ -19,8 +19,8 @@ pub use between_options::BetweenOptions;
 pub use engines::between::{between_engine, between_outcome, search_between};
 pub use engines::check::{check_engine, tour_outcome, tour_outcome_of};
 pub use engines::info::{info_engine, info_outcome};
-pub use engines::matrix::matrix_engine;
-pub use engines::near::near_engine;
+pub use engines::matrix::{matrix_engine, matrix_outcome, write_matrix_of};
+pub use engines::near::{near_engine, near_outcome, write_near_lists};
 pub use engines::plot::plot_engine;
 pub use engines::plotted::Plotted;
 pub use engines::route_check::{route_check_engine, route_outcome, route_outcome_of};
@@ -28,7 +28,7 @@ pub use engines::search::{search_outcome, search_problem};
 pub use engines::solve::{solve_engine, write_found};
 pub use fault::Fault;
 pub use lines::between_lines::write_route_run_line;
-pub use lines::info_lines::write_info;
+pub use lines::info_lines::{put_coordinate, write_info};
 pub use lines::route_line::write_route_verdict;
 pub use lines::solve_lines::{write_run_line, write_search_lines};
 pub use lines::tour_line::write_tour_outcome;

@@ -17,7 +17,7 @@ use Rattle.tourkit_c.specs.Outcomes.{with_status, with_status_twice}
 use Rattle.tourkit_c.specs.declared.answer.Answer.{Answer}
 use Rattle.tk_engines.specs.Check.{check_task}
 use Rattle.tk_engines.specs.MatrixOf.{IsMatrixText}
-use Rattle.tk_engines.specs.NearText.{IsNearText}
+use Rattle.tk_engines.specs.NearText.{near_task}
 use Rattle.tk_engines.specs.RouteCheck.{route_check_task}
 
 -- the text contains this value
@@ -57,7 +57,7 @@ pub record IsRouteCheckOf (problem solution : List ℕ) (verdict : RouteVerdict)
 pub record IsNearTextOf (k : ℕ) (problem text : List ℕ) : Type 0 where
   pub p : ProblemIs
   pub is_problem : TextSays problem_texts problem p
-  pub is : IsNearText k p text
+  pub is : (near_task k).Gives p tt tt text
 
 -- the text of the matrix of the problem of another text
 pub record IsMatrixTextOf (format : Format) (problem text : List ℕ) : Type 0 where

@@ -8,11 +8,13 @@ use Rattle.tk_engines.specs.Lines.InfoLines.{fraction_digits, fraction_text}
 
 -- a fraction of 0 has no digits
 pub digits_none : (places : ℕ) → fraction_digits places 0 ≡ []
+unfolding fraction_digits
 digits_none zero = refl
 digits_none (suc k) = refl
 
 next_digit : (k rest : ℕ) → 0 < rest →
     fraction_digits (suc k) rest ≡ decimal (rest / 10 ^ k) ++ fraction_digits k (rest % 10 ^ k)
+unfolding fraction_digits
 next_digit k rest more =
     let others : List ℕ = decimal (rest / 10 ^ k) ++ fraction_digits k (rest % 10 ^ k) in
     elim (rest == 0) as (λ b. (rest == 0) ≡ b → (if b then [] else others) ≡ others) [
@@ -49,6 +51,7 @@ power_small (suc (suc (suc (suc (suc (suc (suc (suc zero)))))))) few = (omega ar
 power_small (suc (suc (suc (suc (suc (suc (suc (suc (suc k))))))))) few = absurd (omega (arith, few))
 
 pub digits_short : (places fraction : ℕ) → length (fraction_digits places fraction) ≤ places * 64
+unfolding fraction_digits
 digits_short zero fraction = omega arith
 digits_short (suc k) fraction =
     let first = length_decimal (fraction / 10 ^ k) in

@@ -33,6 +33,7 @@ sign_short true = omega arith
 sign_short false = omega arith
 
 coordinate_short : (z : ℤ) → length (coordinate_text z) ≤ 642
+unfolding coordinate_text
 coordinate_short z =
     let a = sign_short (is_negative z) in let b = length_decimal (unsigned_abs z / scale) in
     let c = fraction_short (unsigned_abs z % scale) in
@@ -98,6 +99,7 @@ info_lines_short info =
 pub coordinate_pieces : (z : ℤ) (negative : Bool) (magnitude : ℕ) → negative ≡ is_negative z
     → magnitude ≡ unsigned_abs z
     → sign_text negative ++ decimal (magnitude / scale) ++ fraction_text (magnitude % scale) ≡ coordinate_text z
+unfolding coordinate_text
 coordinate_pieces z negative magnitude sign is = rw (sign, is) refl
 
 pub distance_pieces : (kind : PlaneKind) (area : Area) (word : List ℕ) → word ≡ plane_word kind →

@@ -13,7 +13,7 @@ use Rattle.tk_engines.specs.declared.outcomes.info.ProblemInfo.{ProblemInfo}
 use Rattle.tk_engines.specs.declared.outcomes.info.RoutingInfo.{RoutingInfo}
 
 -- the decimal places of a fraction in units of 10^-k, without zeros at the end
-abbrev pub fraction_digits : ℕ → ℕ → List ℕ
+unfoldable pub fraction_digits : ℕ → ℕ → List ℕ
 fraction_digits zero fraction = []
 fraction_digits (suc k) fraction =
     if fraction == 0 then [] else decimal (fraction / 10 ^ k) ++ fraction_digits k (fraction % 10 ^ k)
@@ -26,7 +26,7 @@ abbrev pub sign_text : Bool → List ℕ
 sign_text negative = if negative then codes "-" else []
 
 -- a coordinate in units of 10^-9, as a decimal number
-abbrev pub coordinate_text : ℤ → List ℕ
+unfoldable pub coordinate_text : ℤ → List ℕ
 coordinate_text z = sign_text (is_negative z) ++ decimal (unsigned_abs z / scale)
     ++ fraction_text (unsigned_abs z % scale)
 

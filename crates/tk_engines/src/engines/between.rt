@@ -13,7 +13,7 @@ ghost use Rattle.tk_engines.specs.Solve.{AreUntouched, BeforeSearch};
 use crate::between_options::BetweenOptions;
 use crate::engines::between_given::{check_start, read_start, search_options};
 use crate::engines::solve::write_files;
-use crate::fault::Fault;
+use crate::fault::{Fault, end_of};
 use crate::outcomes::search::{FoundBetween, SearchOutcome};
 use std::alloc::{AllocError, Global};
 use tk_lists::SolText;
@@ -158,8 +158,5 @@ pub fn between_engine<P: Source, I: Source, F: Sink, W: Sink, V: RouteWatch>(
     ensures unwatched { IfErr result (BeforeSearch (watch.new ≡ watch.old)) }
 {
     let outcome = between_outcome(alloc, options, problem, initial, watch)?;
-    match write_files(file, out, &[], &outcome) {
-        Ok(()) => Ok(()),
-        Err(fault) => Err(Fault::Write(fault)),
-    }
+    end_of(write_files(file, out, &[], &outcome))
 }

@@ -4,7 +4,7 @@ ghost use Rattle.tk_writers.specs.Sinks.{IsBroken};
 ghost use Rattle.tk_engines.specs.Engine.{AtWrite, IsUnwritten, UnlessWrite};
 ghost use Rattle.tk_engines.specs.Info.{FindsInfo, WritesInfo};
 
-use crate::fault::Fault;
+use crate::fault::{Fault, end_of};
 use crate::lines::info_lines::write_info;
 use crate::outcomes::info::ProblemInfo;
 use std::alloc::Global;
@@ -41,8 +41,5 @@ pub fn info_engine<P: Source, W: Sink>(
     ensures failed { IfErr result (AtWrite (IsBroken W.Sink out.new)) }
 {
     let info = info_outcome(alloc, problem)?;
-    match write_info(out, &info) {
-        Ok(()) => Ok(()),
-        Err(fault) => Err(Fault::Write(fault)),
-    }
+    end_of(write_info(out, &info))
 }

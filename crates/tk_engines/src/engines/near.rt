@@ -1,6 +1,6 @@
 //! The near lists of a problem.
-ghost use Rattle.std.specs.Prelude.{◌≤◌, OnErr, IfOk, IfErr};
-ghost use Rattle.tk_problem.specs.declared.limits.TheConstants.{CANDIDATE_LIMIT, CITY_LIMIT};
+ghost use Rattle.std.specs.Prelude.{◌≤◌, OnErr, IfErr};
+ghost use Rattle.tk_problem.specs.declared.limits.TheConstants.{CANDIDATE_LIMIT};
 ghost use Rattle.tk_distance.specs.Cities.{IsCity};
 ghost use Rattle.tk_near.specs.Near.{near_of};
 ghost use Rattle.tk_problem_text.specs.ProblemOf.{problem_is};
@@ -8,11 +8,12 @@ ghost use Rattle.tk_writers.specs.Pens.{Puts};
 ghost use Rattle.tk_writers.specs.Puts.{Writes};
 ghost use Rattle.tk_writers.specs.Written.{near_line};
 ghost use Rattle.tk_writers.specs.Sinks.{IsBroken};
-ghost use Rattle.tk_engines.specs.Engine.{Ends, HasRead, ReadsProblem, NoText, IsUnwritten, UnlessWrite, AtWrite};
-ghost use Rattle.tk_engines.specs.NearText.{IsNearOf, near_task, near_text};
+ghost use Rattle.tk_engines.specs.Engine.{AtWrite, Ends, HasRead, IsUnwritten, NoText, ReadsProblem, UnlessWrite};
+ghost use Rattle.tk_engines.specs.Engine.{WritesNothing};
+ghost use Rattle.tk_engines.specs.NearText.{near_outcome_task, near_task, near_text};
 
-use crate::fault::Fault;
-use std::alloc::{AllocError, Global};
+use crate::fault::{Fault, end_of};
+use std::alloc::Global;
 use tk_distance::Table;
 use tk_near::{Near, near_lists};
 use tk_problem::Problem;
@@ -21,12 +22,32 @@ use tk_words::Source;
 use tk_writers::{Pen, Sink, WriteFault};
 
 /// The near lists of a problem, with k cities each, or all other cities if there are fewer.
-fn lists_of(alloc: Global, problem: &Problem, k: u32) -> Result<Near, AllocError>
+fn lists_of(alloc: Global, problem: &Problem, k: u32) -> Result<Near, Fault>
     requires low { 1 ≤ k }
     requires limit { k ≤ CANDIDATE_LIMIT }
-    ensures { IfOk result (λ v. IsNearOf (problem_is problem.now) k v) }
+    ensures { Ends (near_outcome_task k) (HasRead (problem_is problem.now)) NoText WritesNothing result }
 {
-    near_lists(alloc, &Table::of(problem), k.min(problem.n - 1))
+    match near_lists(alloc, &Table::of(problem), k.min(problem.n - 1)) {
+        Ok(near) => Ok(near),
+        Err(_) => Err(Fault::NoMemory),
+    }
+}
+
+/// Finds the near list of each city of a problem: its k nearest other cities, or all of them if there are fewer. k is
+/// 1 to 100.
+///
+/// # Errors
+/// The fault of the text, or `NoMemory` if memory runs out.
+pub fn near_outcome<R: Source>(alloc: Global, problem: &mut R, k: u32) -> Result<Near, Fault>
+    requires low { 1 ≤ k }
+    requires limit { k ≤ CANDIDATE_LIMIT }
+    ensures ends { Ends (near_outcome_task k) (ReadsProblem R.Source problem.old problem.new) NoText WritesNothing
+        result }
+{
+    match read_problem(alloc, problem) {
+        Ok(problem) => lists_of(alloc, &problem, k),
+        Err(fault) => Err(Fault::Problem(fault)),
+    }
 }
 
 /// Writes the near list of a city on a line of its own.
@@ -49,38 +70,21 @@ fn put_lists<W: Sink>(pen: &mut Pen<'_, W>, near: &Near)
     }
 }
 
-/// Writes the near lists of all cities to a sink.
-fn write_lists<W: Sink>(out: &mut W, near: &Near) -> Result<(), WriteFault>
-    requires few { near.now.size ≤ CITY_LIMIT }
-    requires narrow { near.now.width ≤ CANDIDATE_LIMIT }
+/// Writes the near lists of all cities to a sink, a line for each city.
+///
+/// # Errors
+/// A write failed; the fault contains the number of bytes that were written.
+pub fn write_near_lists<W: Sink>(out: &mut W, near: &Near) -> Result<(), WriteFault>
     ensures text { Writes W.Sink out.old out.new result (near_text near.now) }
     ensures failed { OnErr result (IsBroken W.Sink out.new) }
 {
+    let _limits = (near.size(), near.width()); // for the proof that the text is short
     let mut pen = Pen::new(out);
     put_lists(&mut pen, near);
     pen.end()
 }
 
-/// Finds and writes the near lists of a problem.
-fn near_problem<W: Sink>(alloc: Global, problem: &Problem, k: u32, out: &mut W) -> Result<(), Fault>
-    requires low { 1 ≤ k }
-    requires limit { k ≤ CANDIDATE_LIMIT }
-    ensures ends { Ends (near_task k) (HasRead (problem_is problem.now)) NoText
-        (Writes W.Sink out.old out.new) result }
-    ensures quiet { IfErr result (UnlessWrite (IsUnwritten W.Sink out.old out.new)) }
-    ensures failed { IfErr result (AtWrite (IsBroken W.Sink out.new)) }
-{
-    let Ok(near) = lists_of(alloc, problem, k) else {
-        return Err(Fault::NoMemory);
-    };
-    match write_lists(out, &near) {
-        Ok(()) => Ok(()),
-        Err(fault) => Err(Fault::Write(fault)),
-    }
-}
-
-/// Writes the near list of each city of a problem: its k nearest other cities, or all of them if there are fewer. k is
-/// 1 to 100.
+/// Writes the near list of each city of a problem, as [`near_outcome`] finds it.
 ///
 /// The whole text is read before a byte is written.
 ///
@@ -99,8 +103,6 @@ pub fn near_engine<R: Source, W: Sink>(
     ensures quiet { IfErr result (UnlessWrite (IsUnwritten W.Sink out.old out.new)) }
     ensures failed { IfErr result (AtWrite (IsBroken W.Sink out.new)) }
 {
-    match read_problem(alloc, problem) {
-        Ok(problem) => near_problem(alloc, &problem, k, out),
-        Err(fault) => Err(Fault::Problem(fault)),
-    }
+    let near = near_outcome(alloc, problem, k)?;
+    end_of(write_near_lists(out, &near))
 }

@@ -47,19 +47,18 @@ fn search_tour<V: Watch>(
 fn find_tour<V: Watch>(
     alloc: Global,
     params: &Params,
-    problem: Problem,
+    problem: &Problem,
     initial: &Option<TourText>,
     watch: &mut V,
 ) -> Result<FoundTour, AllocError>
-    requires { MatchOption (cities_in initial.now) (Unit {0}) (IsTour problem.n) }
-    ensures { IfOk result (IsTourFound params.now (WereShown V.shows watch.old watch.new) (problem_is problem)
+    requires { MatchOption (cities_in initial.now) (Unit {0}) (IsTour problem.now.n) }
+    ensures { IfOk result (IsTourFound params.now (WereShown V.shows watch.old watch.new) (problem_is problem.now)
         (cities_in initial.now)) }
 {
-    let solved = search_tour(alloc, params, &problem, initial, watch)?;
-    Ok(FoundTour {
-        name: problem.name,
-        solved,
-    })
+    let mut name = Vec::new(alloc);
+    name.extend_from_slice(&problem.name)?;
+    let solved = search_tour(alloc, params, problem, initial, watch)?;
+    Ok(FoundTour { name, solved })
 }
 
 /// The options of a search for routes, as the parameters specify them.
@@ -88,15 +87,15 @@ fn find_routes(alloc: Global, params: &Params, cvrp: &Cvrp<'_>) -> Result<FoundR
 fn find<V: Watch>(
     alloc: Global,
     params: &Params,
-    problem: Problem,
+    problem: &Problem,
     initial: &Option<TourText>,
     watch: &mut V,
 ) -> Result<SearchOutcome, AllocError>
-    requires { MatchOption (cities_in initial.now) (Unit {0}) (IsTour problem.n) }
+    requires { MatchOption (cities_in initial.now) (Unit {0}) (IsTour problem.now.n) }
     ensures { IfOk result (λ o. (search_task params.now (WereShown V.shows watch.old watch.new)).Gives
-        (problem_is problem) (cities_in initial.now) o tt) }
+        (problem_is problem.now) (cities_in initial.now) o tt) }
 {
-    if let Some(cvrp) = Cvrp::of(&problem) {
+    if let Some(cvrp) = Cvrp::of(problem) {
         return Ok(SearchOutcome::Routes(find_routes(alloc, params, &cvrp)?));
     }
     Ok(SearchOutcome::Tour(find_tour(alloc, params, problem, initial, watch)?))
@@ -106,16 +105,16 @@ fn find<V: Watch>(
 fn search_from<V: Watch>(
     alloc: Global,
     params: &Params,
-    problem: Problem,
+    problem: &Problem,
     initial: &Option<TourText>,
     watch: &mut V,
 ) -> Result<SearchOutcome, Fault>
-    requires { unfit_key params.now (problem_is problem) ≡ None }
-    ensures ends { Ends (search_task params.now (WereShown V.shows watch.old watch.new)) (HasRead (problem_is problem))
-        (HasRead (cities_in initial.now)) WritesNothing result }
+    requires { unfit_key params.now (problem_is problem.now) ≡ None }
+    ensures ends { Ends (search_task params.now (WereShown V.shows watch.old watch.new))
+        (HasRead (problem_is problem.now)) (HasRead (cities_in initial.now)) WritesNothing result }
     ensures unwatched { IfErr result (BeforeSearch (watch.new ≡ watch.old)) }
 {
-    check_initial(alloc, &problem, initial)?;
+    check_initial(alloc, problem, initial)?;
     match find(alloc, params, problem, initial, watch) {
         Ok(outcome) => Ok(outcome),
         Err(_) => Err(Fault::NoMemory),
@@ -129,16 +128,17 @@ fn search_from<V: Watch>(
 pub fn search_problem<I: Source, V: Watch>(
     alloc: Global,
     params: &Params,
-    problem: Problem,
+    problem: &Problem,
     initial: &mut I,
     watch: &mut V,
 ) -> Result<SearchOutcome, Fault>
-    ensures ends { Ends (search_task params.now (WereShown V.shows watch.old watch.new)) (HasRead (problem_is problem))
+    ensures ends { Ends (search_task params.now (WereShown V.shows watch.old watch.new))
+        (HasRead (problem_is problem.now))
         (ReadsInitial (is_some params.now.initial_tour_file) I.Source initial.old initial.new) WritesNothing result }
     ensures unread { IfErr result (BeforeSecond (IsUnread I.Source initial.old initial.new)) }
     ensures unwatched { IfErr result (BeforeSearch (watch.new ≡ watch.old)) }
 {
-    if let Some(key) = unfit(params, &problem) {
+    if let Some(key) = unfit(params, problem) {
         return Err(Fault::NotForType(key));
     }
     let tour = read_initial(alloc, params, initial)?;
@@ -168,7 +168,7 @@ pub fn search_outcome<P: Source, I: Source, V: Watch>(
     ensures unwatched { IfErr result (BeforeSearch (watch.new ≡ watch.old)) }
 {
     match read_problem(alloc, problem) {
-        Ok(problem) => search_problem(alloc, params, problem, initial, watch),
+        Ok(problem) => search_problem(alloc, params, &problem, initial, watch),
         Err(fault) => Err(Fault::Problem(fault)),
     }
 }

@@ -7,7 +7,7 @@ ghost use Rattle.tk_engines.specs.Engine.{AtWrite, BeforeSecond, IsUnread, Unles
 ghost use Rattle.tk_engines.specs.Solve.{AreUntouched, BeforeSearch, Solves, WritesFiles, files_with, found_text};
 
 use crate::engines::search::search_outcome;
-use crate::fault::Fault;
+use crate::fault::{Fault, end_of};
 use crate::lines::solve_lines::write_search_lines;
 use crate::outcomes::search::SearchOutcome;
 use std::alloc::Global;
@@ -85,8 +85,5 @@ pub fn solve_engine<P: Source, I: Source, F: Sink, W: Sink, V: Watch>(
     ensures unwatched { IfErr result (BeforeSearch (watch.new ≡ watch.old)) }
 {
     let outcome = search_outcome(alloc, params, problem, initial, watch)?;
-    match write_files(file, out, params.ignored(), &outcome) {
-        Ok(()) => Ok(()),
-        Err(fault) => Err(Fault::Write(fault)),
-    }
+    end_of(write_files(file, out, params.ignored(), &outcome))
 }

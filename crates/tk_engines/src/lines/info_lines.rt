@@ -46,8 +46,8 @@ fn put_sign<W: Sink>(pen: &mut Pen<'_, W>, negative: bool)
     }
 }
 
-/// Writes a coordinate in units of 10^-9 as a decimal number.
-fn put_coordinate<W: Sink>(pen: &mut Pen<'_, W>, coordinate: i64)
+/// Writes a coordinate in units of 10^-9 as a decimal number, without zeros at the end.
+pub fn put_coordinate<W: Sink>(pen: &mut Pen<'_, W>, coordinate: i64)
     ensures { Puts W.Sink pen.old pen.new (coordinate_text coordinate) }
 {
     let scale = SCALE as u64;

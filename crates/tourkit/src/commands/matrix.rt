@@ -1,13 +1,15 @@
 //! The subcommand `matrix`.
+ghost use Rattle.std.specs.Prelude.{◌≤◌};
+ghost use Rattle.tk_problem.specs.declared.limits.TheConstants.{TABLE_LIMIT};
+
 use crate::input::open;
-use crate::refusal::{Misfit, Refusal, USAGE};
+use crate::refusal::{Refusal, USAGE};
 use crate::rows::write_matrix_object;
 use std::process::ExitCode;
-use tk_engines::matrix_engine;
-use tk_problem::{Problem, TABLE_LIMIT};
-use tk_problem_text::read_problem;
-use tk_words::{FromRead, Source};
-use tk_writers::{ToWrite, format_of};
+use tk_engines::{matrix_outcome, write_matrix_of};
+use tk_problem::{Format, Problem};
+use tk_words::FromRead;
+use tk_writers::{ToWrite, WriteFault, format_of};
 
 /// `matrix PROBLEM FORMAT [--json]`.
 ///
@@ -22,27 +24,24 @@ pub fn matrix_command<'a>(
     let Some(format) = format_of(word) else {
         return Ok(ExitCode::from(USAGE));
     };
-    let mut problem = FromRead::new(open(rt, file)?);
-    let mut out = ToWrite::new(rt.stdout());
-    if json {
-        write_matrix_object(&mut out, &small_problem(rt, file, &mut problem)?)?;
-        return Ok(ExitCode::SUCCESS);
-    }
-    match matrix_engine(rt.alloc(), &mut problem, format, &mut out) {
-        Ok(()) => Ok(ExitCode::SUCCESS),
+    let problem = open(rt, file)?;
+    match matrix_outcome(rt.alloc(), &mut FromRead::new(problem)) {
+        Ok(problem) => {
+            print(rt, &problem, format, json)?;
+            Ok(ExitCode::SUCCESS)
+        }
         Err(fault) => Err(Refusal::stopped(file, &fault)),
     }
 }
 
-/// The problem in a file, unless it is too large for a matrix.
-fn small_problem<'a, P: Source>(
-    rt: &HostRuntime,
-    file: &'a str,
-    problem: &mut P,
-) -> Result<Problem, Refusal<'a>> {
-    match read_problem(rt.alloc(), problem) {
-        Ok(problem) if problem.n > TABLE_LIMIT => Err(Refusal::Unfit(file, Misfit::TooLarge)),
-        Ok(problem) => Ok(problem),
-        Err(fault) => Err(Refusal::Text(file, fault)),
+/// Prints the matrix of a problem, in this format or as JSON.
+fn print(rt: &HostRuntime, problem: &Problem, format: Format, json: bool) -> Result<(), WriteFault>
+    requires few { problem.now.n ≤ TABLE_LIMIT }
+{
+    let mut out = ToWrite::new(rt.stdout());
+    if json {
+        write_matrix_object(&mut out, problem)
+    } else {
+        write_matrix_of(&mut out, problem, format)
     }
 }

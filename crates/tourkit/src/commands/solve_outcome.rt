@@ -45,10 +45,8 @@ pub fn outcome_of<P: Source, I: Source>(
     let Some(options) = search.options else {
         return Ok(search_outcome(alloc, search.params, problem, initial, watch)?);
     };
-    match read_problem(alloc, problem) {
-        Ok(problem) => outcome_by_options(alloc, search.params, options, problem, initial, watch),
-        Err(fault) => Err(Stop::Fault(Fault::Problem(fault))),
-    }
+    let problem = read_problem(alloc, problem).map_err(Fault::Problem)?;
+    outcome_by_options(alloc, search.params, options, &problem, initial, watch)
 }
 
 /// The outcome of a search that options request, for a problem that has been read.
@@ -56,7 +54,7 @@ fn outcome_by_options<I: Source>(
     alloc: Global,
     params: &Params,
     options: &SearchOptions<'_>,
-    problem: Problem,
+    problem: &Problem,
     initial: &mut I,
     watch: &mut SearchWatch<'_>,
 ) -> Result<SearchOutcome, Stop> {
@@ -66,7 +64,7 @@ fn outcome_by_options<I: Source>(
     }
     if routing && !options.within_routes {
         let terms = between_options(params, options);
-        return Ok(search_between(alloc, &terms, &problem, initial, watch)?);
+        return Ok(search_between(alloc, &terms, problem, initial, watch)?);
     }
     Ok(search_problem(alloc, params, problem, initial, watch)?)
 }

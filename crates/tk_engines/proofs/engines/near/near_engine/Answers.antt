@@ -1,9 +1,16 @@
 use Rattle.tk_writers.specs.Puts.{Writes}
-use Rattle.tk_engines.proofs.Ends.{problem_read}
-use Rattle.tk_engines.proofs.TextsRead.{is_read}
+use Rattle.tk_engines.specs.NearText.{near_outcome_task, near_text}
+use Rattle.tk_engines.specs.Engine.{UnlessWrite}
+use Rattle.tk_engines.proofs.Ends.{ends_as, failed_as, if_unwritten}
 use Rattle.tk_engines.proofs.engines.near.near_engine.Goals as goal
 
-pub returns-in-Ok-clause-ends : goal.returns-in-Ok-clause-ends
-returns-in-Ok-clause-ends g c =
-    problem_read _ _ _ (Writes g.W.Sink c.args.out.now c.near_problem.new.out) _ (is_read c.in-Ok.ensures.reads)
-    c.near_problem.result c.near_problem.ensures.ends
+pub returns : goal.returns
+returns g c =
+    let written = c.write_near_lists in
+    record {
+      ends = ends_as (near_outcome_task c.args.k) near_text _ _ (Writes g.W.Sink c.args.out.now written.new.out)
+          c.in_ok-near.near c.in_ok-near.ensures.ends written.result written.ensures.text c.end_of.result
+          c.end_of.ensures;
+      quiet = if_unwritten (UnlessWrite _) (λ f. tt) written.result c.end_of.result c.end_of.ensures;
+      failed = failed_as _ written.result c.end_of.result c.end_of.ensures written.ensures.failed;
+    }

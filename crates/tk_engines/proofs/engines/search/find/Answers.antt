@@ -5,7 +5,7 @@ use Rattle.tk_engines.proofs.engines.search.find.Goals as goal
 
 pub returns-in-Some : goal.returns-in-Some
 returns-in-Some g c = (
-  some_instance_read c.args.problem _ (λ i. AreRoutesFound c.args.params.now i c.in_ok-find_routes.field-0)
+  some_instance_read c.args.problem.now _ (λ i. AreRoutesFound c.args.params.now i c.in_ok-find_routes.field-0)
       c.in-Some.ensures.some c.in_ok-find_routes.ensures,
   nothing,
 )

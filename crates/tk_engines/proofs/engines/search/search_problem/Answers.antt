@@ -13,6 +13,6 @@ returns-clause-ends g c =
 
 pub returns-clause-unread : goal.returns-clause-unread
 returns-clause-unread g c =
-    let none : unfit_key c.args.params.now (problem_is c.args.problem) ≡ None = search rules in
+    let none : unfit_key c.args.params.now (problem_is c.args.problem.now) ≡ None = search rules in
     second_reached _ _ _ WritesNothing _ (ap (option_map NotForType) none) c.search_from.result
     c.search_from.ensures.ends

@@ -1,15 +1,20 @@
-use Rattle.tk_engines.specs.Solve.{files_of, search_task}
-use Rattle.tk_engines.proofs.Ends.{given_as}
+use Rattle.tk_engines.specs.Engine.{BeforeSecond, UnlessWrite}
+use Rattle.tk_engines.specs.Solve.{AreUntouched, BeforeSearch, WritesFiles, files_of, search_task}
+use Rattle.tk_engines.proofs.Ends.{ends_as, failed_as, if_unwritten}
 use Rattle.tk_engines.proofs.engines.solve.solve_engine.Goals as goal
 
-pub returns-in-Ok-clause-ends : goal.returns-in-Ok-clause-ends
-returns-in-Ok-clause-ends g c =
-    given_as (search_task c.args.params.now _) (λ _. tt) (files_of c.args.params.now) _ _ _ c.in_ok-outcome.outcome
-    c.in_ok-outcome.ensures.ends (rw (c.in-Ok.is, c.ignored.ensures.value) at c.write_files.ensures.text)
-
-pub returns-clause-ends : goal.returns-clause-ends
-returns-clause-ends g c = (
-  tt,
-  given_as (search_task c.args.params.now _) (λ _. tt) (files_of c.args.params.now) _ _ _ c.in_ok-outcome.outcome
-      c.in_ok-outcome.ensures.ends (rw (c.in-Err.is, c.ignored.ensures.value) at c.write_files.ensures.text),
-)
+pub returns : goal.returns
+returns g c =
+    let written = c.write_files in
+    record {
+      ends = ends_as (search_task c.args.params.now _) (files_of c.args.params.now) _ _
+          (WritesFiles g.F.Sink g.W.Sink c.args.file.now written.new.file c.args.out.now written.new.out)
+          c.in_ok-outcome.outcome c.in_ok-outcome.ensures.ends written.result
+          (rw c.ignored.ensures.value at written.ensures.text) c.end_of.result c.end_of.ensures;
+      quiet = if_unwritten (UnlessWrite
+          (AreUntouched g.F.Sink g.W.Sink c.args.file.now written.new.file c.args.out.now written.new.out)) (λ f. tt)
+          written.result c.end_of.result c.end_of.ensures;
+      failed = failed_as _ written.result c.end_of.result c.end_of.ensures written.ensures.failed;
+      unread = if_unwritten (BeforeSecond _) (λ f. tt) written.result c.end_of.result c.end_of.ensures;
+      unwatched = if_unwritten (BeforeSearch _) (λ f. tt) written.result c.end_of.result c.end_of.ensures;
+    }

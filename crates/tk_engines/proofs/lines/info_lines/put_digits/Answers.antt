@@ -50,6 +50,7 @@ returns-else-rest-gt0 g c =
     ∙ digits_none c.loop-places.places)) ∙ h.2) h.1
 
 pub returns-after-loop-places : goal.returns-after-loop-places
+unfolding fraction_digits
 returns-after-loop-places g c =
     let h = c.loop-places.invariant in
     let done : c.loop-places.places ≡ 0 = omega (arith, c.loop-places-test.false) in

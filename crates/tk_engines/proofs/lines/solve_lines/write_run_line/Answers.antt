@@ -1,15 +1,9 @@
-use Rattle.std.proofs.Common.{◌≤◌, ◌^◌, length, arith, rules}
-use Rattle.tk_writers.proofs.Pieces.Putting.{Writes-end, broken_at_err}
-use Rattle.tk_engines.specs.Lines.SolveLines.{run_line}
+use Rattle.std.proofs.Common.{arith, rules}
+use Rattle.tk_engines.proofs.PrintedLines.Labels.{Writes-short}
 use Rattle.tk_engines.proofs.PrintedLines.LineLengths.{run_short}
 use Rattle.tk_engines.proofs.lines.solve_lines.write_run_line.Goals as goal
 
-pub returns-clause-text : goal.returns-clause-text
-returns-clause-text g c = Writes-end g.W.Sink c.args.out.now _ _ _ _ _ _ c.new-pen.ensures.empty
-    c.put_run.ensures c.end.ensures (search rules)
-
-pub returns-clause-failed : goal.returns-clause-failed
-returns-clause-failed g c =
-    let short : length (run_line c.args.number c.args.report.now) ≤ 2 ^ 63 =
-    omega (arith, run_short c.args.number c.args.report.now) in
-    broken_at_err g.W.Sink c.args.out.now _ _ _ short (returns-clause-text g c)
+pub returns : goal.returns
+returns g c =
+    Writes-short g.W.Sink c.args.out.now _ _ _ _ _ _ c.new-pen.ensures.empty c.put_run.ensures
+    c.end.ensures (search rules) (omega (arith, run_short c.args.number c.args.report.now))

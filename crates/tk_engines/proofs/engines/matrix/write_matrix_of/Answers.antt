@@ -3,7 +3,7 @@ use Rattle.tk_problem_text.specs.ProblemOf.{weights_are}
 use Rattle.tk_engines.proofs.ProblemTables.{GivesTable-table, IsTable-table}
 use Rattle.tk_engines.proofs.ReadTables.{distances_read}
 use Rattle.tk_engines.specs.ReadProblems.{read_distance}
-use Rattle.tk_engines.proofs.engines.matrix.write_problem.Goals as goal
+use Rattle.tk_engines.proofs.engines.matrix.write_matrix_of.Goals as goal
 
 pub write_matrix-requires-clause-table : goal.write_matrix-requires-clause-table
 write_matrix-requires-clause-table g c =
