@@ -59,7 +59,7 @@ fn target_of(rt: &HostRuntime, name: &str) -> Result<Target, Unsaved> {
         Ok(found) if found.is_file() => Ok(Target::Plain(open_old(rt, name)?)),
         Ok(_) => Ok(Target::Special),
         Err(error) if error.kind() == ErrorKind::NotFound => missing(rt, name),
-        Err(error) => Err(unopened(error.kind())),
+        Err(error) => Err(unopened(error)),
     }
 }
 
@@ -75,17 +75,15 @@ fn missing(rt: &HostRuntime, name: &str) -> Result<Target, Unsaved> {
     match fs::symlink_metadata(rt, name) {
         Ok(_) => Ok(Target::Dangling),
         Err(error) if error.kind() == ErrorKind::NotFound => Ok(Target::Nothing),
-        Err(error) => Err(unopened(error.kind())),
+        Err(error) => Err(unopened(error)),
     }
 }
 
 /// Opens a file that exists, without truncating it. The call would also create the file: in a world-writable directory,
 /// the system protects the files of others only from such calls.
 fn open_old(rt: &HostRuntime, name: &str) -> Result<File, Unsaved> {
-    match File::options().write(true).create(true).open(rt, name) {
-        Ok(file) => Ok(file),
-        Err(error) => Err(unopened(error.kind())),
-    }
+    let opened = File::options().write(true).create(true).open(rt, name);
+    opened.map_err(unopened)
 }
 
 /// The path that a link leads to, possibly through other links, if nothing exists there.
@@ -102,14 +100,8 @@ fn end_of_links(rt: &HostRuntime, name: &str) -> Result<PathBuf, Unsaved> {
 
 /// The path that a link names. A relative one starts in the directory of the link.
 fn named_by_link(rt: &HostRuntime, link: &str) -> Result<PathBuf, Unsaved> {
-    let target = match fs::read_link(rt, link) {
-        Ok(target) => target,
-        Err(error) => return Err(unopened(error.kind())),
-    };
-    match Path::new(link).with_file_name(rt.alloc(), target.as_str()) {
-        Ok(path) => Ok(path),
-        Err(_) => Err(Unsaved::NoMemory),
-    }
+    let target = fs::read_link(rt, link).map_err(unopened)?;
+    Ok(Path::new(link).with_file_name(rt.alloc(), target.as_str())?)
 }
 
 /// Writes a text to a file. A regular file is unchanged until the text has been written to a temporary file next to it,
@@ -144,10 +136,7 @@ fn refusal_of(name: &str, unsaved: Unsaved) -> Refusal<'_> {
 /// Writes the text to a file that exists and is open. The file is replaced at the path that the name leads to; on
 /// `Unsaved::NoOther`, it is overwritten instead.
 fn save_old(rt: &HostRuntime, name: &str, file: File, text: &[u8]) -> Result<(), Unsaved> {
-    let found = match file.metadata() {
-        Ok(found) => found,
-        Err(error) => return Err(unopened(error.kind())),
-    };
+    let found = file.metadata().map_err(unopened)?;
     match replace_old(rt, name, &found, text) {
         Err(Unsaved::NoOther) => write_over(file, found.len(), text),
         replaced => replaced,
@@ -156,10 +145,7 @@ fn save_old(rt: &HostRuntime, name: &str, file: File, text: &[u8]) -> Result<(),
 
 /// Replaces the file that was found under a name, if it is still there.
 fn replace_old(rt: &HostRuntime, name: &str, found: &Metadata, text: &[u8]) -> Result<(), Unsaved> {
-    let path = match fs::canonicalize(rt, name) {
-        Ok(path) => path,
-        Err(error) => return Err(hindered(error.kind())),
-    };
+    let path = fs::canonicalize(rt, name).map_err(hindered)?;
     if id_of(fs::metadata(rt, path.as_str())) != FileId::of(found) {
         return Err(Unsaved::NoOther);
     }
@@ -177,8 +163,8 @@ fn save_new(rt: &HostRuntime, name: &str, text: &[u8]) -> Result<(), Unsaved> {
 }
 
 /// Why a text is not saved, if its file cannot be opened.
-fn unopened(kind: ErrorKind) -> Unsaved {
-    match kind {
+fn unopened(error: io::Error) -> Unsaved {
+    match error.kind() {
         ErrorKind::OutOfMemory => Unsaved::NoMemory,
         _ => Unsaved::Unopened,
     }
@@ -215,9 +201,6 @@ fn overwrite(file: &mut File, text: &[u8]) -> io::Result<()> {
 
 /// Writes the text directly to what the name leads to: a device, a pipe, a socket or a new file.
 fn write_directly(rt: &HostRuntime, name: &str, text: &[u8]) -> Result<(), Unsaved> {
-    let mut file = match File::create(rt, name) {
-        Ok(file) => file,
-        Err(error) => return Err(unopened(error.kind())),
-    };
+    let mut file = File::create(rt, name).map_err(unopened)?;
     file.write_all(text).map_err(|_| Unsaved::Unwritten)
 }

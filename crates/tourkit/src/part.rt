@@ -29,6 +29,12 @@ pub enum Unsaved {
     NoMemory,
 }
 
+impl From<AllocError> for Unsaved {
+    fn from(_error: AllocError) -> Unsaved {
+        Unsaved::NoMemory
+    }
+}
+
 /// Writes a text to a new file next to the one at `path`, waits until it is on disk, and renames it to `path`. Returns
 /// the metadata of the new file. If that fails, an old file at `path` is unchanged.
 ///
@@ -45,10 +51,8 @@ pub fn replace(
         part.remove(rt);
         return Err(Unsaved::Unwritten);
     };
-    match part.put_in_place(rt, path) {
-        Ok(()) => Ok(found),
-        Err(error) => Err(hindered(error.kind())),
-    }
+    part.put_in_place(rt, path).map_err(hindered)?;
+    Ok(found)
 }
 
 /// A new file next to another one.
@@ -103,9 +107,7 @@ impl Part {
 /// Creates a new file with at most these permissions.
 fn create(rt: &HostRuntime, path: &str, mode: u32) -> Result<Part, Unsaved> {
     for number in 0..NAMES {
-        let Ok(name) = part_name(rt, path, number) else {
-            return Err(Unsaved::NoMemory);
-        };
+        let name = part_name(rt, path, number)?;
         let created = File::options()
             .write(true)
             .create_new(true)
@@ -114,7 +116,7 @@ fn create(rt: &HostRuntime, path: &str, mode: u32) -> Result<Part, Unsaved> {
         match created {
             Ok(file) => return Ok(Part { name, file }),
             Err(error) if error.kind() == ErrorKind::AlreadyExists => {}
-            Err(error) => return Err(hindered(error.kind())),
+            Err(error) => return Err(hindered(error)),
         }
     }
     Err(Unsaved::NoOther)
@@ -169,8 +171,8 @@ fn sync_directory(rt: &HostRuntime, path: &str) {
 
 /// The reason why a text was not saved, if its file cannot be created or renamed. If the disk is full or memory has run
 /// out, no other way is tried.
-pub fn hindered(kind: ErrorKind) -> Unsaved {
-    match kind {
+pub fn hindered(error: io::Error) -> Unsaved {
+    match error.kind() {
         ErrorKind::StorageFull | ErrorKind::QuotaExceeded => Unsaved::Unwritten,
         ErrorKind::OutOfMemory => Unsaved::NoMemory,
         _ => Unsaved::NoOther,

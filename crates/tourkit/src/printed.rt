@@ -38,7 +38,7 @@ pub fn print_json<T: Serialize>(rt: &HostRuntime, value: &T) -> Result<(), Unpri
         return Err(Unprinted::NoMemory);
     };
     text.push_str("\n")?;
-    print_text(rt, &text)
+    print_bytes(rt, text.as_bytes())
 }
 
 /// Prints a value on a line of its own.
@@ -47,7 +47,7 @@ pub fn print_json<T: Serialize>(rt: &HostRuntime, value: &T) -> Result<(), Unpri
 /// Why it was not printed.
 pub fn print_line<T: Display>(rt: &HostRuntime, value: &T) -> Result<(), Unprinted> {
     let text = format!(in rt.alloc(); "{value}\n")?;
-    print_text(rt, &text)
+    print_bytes(rt, text.as_bytes())
 }
 
 /// Prints the name of a file and a colon, before the line of one of several files.
@@ -64,9 +64,12 @@ pub fn print_name(rt: &HostRuntime, file: Option<&str>) -> Result<(), Unprinted>
     }
 }
 
-/// Prints a text.
-fn print_text(rt: &HostRuntime, text: &str) -> Result<(), Unprinted> {
-    match rt.stdout().write_all(text.as_bytes()) {
+/// Prints bytes.
+///
+/// # Errors
+/// `Unwritten` if the write failed.
+pub fn print_bytes(rt: &HostRuntime, bytes: &[u8]) -> Result<(), Unprinted> {
+    match rt.stdout().write_all(bytes) {
         Ok(()) => Ok(()),
         Err(_) => Err(Unprinted::Unwritten),
     }

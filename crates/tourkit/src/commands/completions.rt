@@ -1,7 +1,7 @@
 //! The option `--completions`.
 use crate::embedded::completions::{BASH, FISH, ZSH};
+use crate::printed::print_bytes;
 use crate::refusal::Refusal;
-use std::io::Write;
 use std::process::ExitCode;
 use tk_command_line::Shell;
 
@@ -10,10 +10,8 @@ use tk_command_line::Shell;
 /// # Errors
 /// `Refusal::Unwritten` if the completions cannot be written.
 pub fn completions_command(rt: &HostRuntime, shell: Shell) -> Result<ExitCode, Refusal<'static>> {
-    match rt.stdout().write_all(completions_of(shell)) {
-        Ok(()) => Ok(ExitCode::SUCCESS),
-        Err(_) => Err(Refusal::Unwritten),
-    }
+    print_bytes(rt, completions_of(shell))?;
+    Ok(ExitCode::SUCCESS)
 }
 
 /// The completions for a shell.

@@ -1,10 +1,10 @@
 //! The subcommand `explain`.
 use crate::explained_text::{Unread, read_explained};
 use crate::input::open;
+use crate::printed::print_bytes;
 use crate::refusal::{Misfit, Refusal};
 use crate::shown::shown_on_output;
 use std::fs;
-use std::io::Write;
 use std::process::ExitCode;
 use tk_diagnosis::FileFault;
 use tk_explain::{fault_page, file_page, is_number, line_page, unread_fault};
@@ -73,8 +73,6 @@ fn unread<'a>(name: &'a str, text: &[u8]) -> Refusal<'a> {
 
 /// Prints an explanation.
 fn print_page<'a>(rt: &HostRuntime, page: &str) -> Result<ExitCode, Refusal<'a>> {
-    match rt.stdout().write_all(page.as_bytes()) {
-        Ok(()) => Ok(ExitCode::SUCCESS),
-        Err(_) => Err(Refusal::Unwritten),
-    }
+    print_bytes(rt, page.as_bytes())?;
+    Ok(ExitCode::SUCCESS)
 }
