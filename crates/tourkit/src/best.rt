@@ -118,16 +118,13 @@ impl<'a> BestFile<'a> {
         }
     }
 
-    /// Saves the text of the result of the search, which could not be printed. Returns the name of the file if that
-    /// succeeded.
-    pub fn keep_result(&mut self, text: &[u8]) -> Option<&str> {
-        let place = self.place.as_mut()?;
+    /// Saves the text of the result of the search, which could not be printed. Returns whether that succeeded.
+    pub fn keep_result(&mut self, text: &[u8]) -> bool {
+        let Some(place) = &mut self.place else {
+            return false;
+        };
         let length = place.length_of(text);
-        if place.takes(length) && place.put(text) {
-            Some(place.name())
-        } else {
-            None
-        }
+        place.takes(length) && place.put(text)
     }
 
     /// Removes the file, after the search has written its result.

@@ -60,11 +60,6 @@ impl<'a> BestPlace<'a> {
         Ok(Some(place))
     }
 
-    /// The name of the file.
-    pub fn name(&self) -> &str {
-        &self.name
-    }
-
     /// Reports the file that is already here. A tour or routes from which this search starts are not reported, nor is a
     /// file that could not be judged although the problem can be read again.
     fn note_other(&mut self, search: &Search<'_, 'a>) {

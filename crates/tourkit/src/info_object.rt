@@ -1,8 +1,8 @@
 //! What is known of a problem as a JSON object. Its members are described in docs/OUTPUT.md.
 use serde::Serialize;
 use std::alloc::{AllocError, Global};
-use tk_engines::{Area, DistanceInfo, ProblemInfo, RoutingInfo};
-use tk_problem::SCALE;
+use tk_engines::{Area, DistanceInfo, ProblemInfo, RoutingInfo, put_coordinate};
+use tk_writers::{Pen, ToWrite};
 
 /// What is known of a problem.
 #[derive(Drop, Serialize)]
@@ -54,7 +54,7 @@ impl InfoObject {
     }
 }
 
-/// A name as text, with U+FFFD for each sequence of bytes that is not UTF-8.
+/// Bytes as text, with U+FFFD for each sequence of bytes that is not UTF-8.
 fn text_of(alloc: Global, name: &[u8]) -> Result<String, AllocError> {
     let mut text = String::new(alloc);
     for chunk in name.utf8_chunks() {
@@ -75,14 +75,15 @@ fn area_object(alloc: Global, area: &Area) -> Result<AreaObject, AllocError> {
     })
 }
 
-/// A coordinate in units of 10^-9 as a decimal number, without zeros at the end.
+/// A coordinate in units of 10^-9 as a decimal number.
 fn decimal(alloc: Global, coordinate: i64) -> Result<String, AllocError> {
-    let scale = SCALE as u64;
-    let magnitude = coordinate.unsigned_abs();
-    let sign = if coordinate < 0 { "-" } else { "" };
-    let text = format!(in alloc; "{sign}{}.{:09}", magnitude / scale, magnitude % scale)?;
-    let text = text.trim_end_matches('0').trim_end_matches('.');
-    String::from_str(alloc, text)
+    let mut text = ToWrite::new(Vec::new(alloc));
+    let mut pen = Pen::new(&mut text);
+    put_coordinate(&mut pen, coordinate);
+    if pen.end().is_err() {
+        return Err(AllocError);
+    }
+    text_of(alloc, &text.inner)
 }
 
 /// The object of routing data.

@@ -46,9 +46,8 @@ impl<'a> SearchWatch<'a> {
         self.best.remove();
     }
 
-    /// Keeps the text of a result that could not be printed. Returns the name of the file with it, if it could be
-    /// saved.
-    pub fn keep_result(&mut self, text: &[u8]) -> Option<&str> {
+    /// Keeps the text of a result that could not be printed. Returns whether it could be saved.
+    pub fn keep_result(&mut self, text: &[u8]) -> bool {
         self.best.keep_result(text)
     }
 

@@ -205,7 +205,7 @@ fn print_object(
 /// The refusal if a write to standard output failed. The result is kept next to the output file if possible.
 fn unwritten<'a>(search: &Search<'_, 'a>, text: &[u8], watch: &mut SearchWatch<'_>) -> Refusal<'a> {
     match search.written_file() {
-        Some(output) if watch.keep_result(text).is_some() => Refusal::UnwrittenButKept(output),
+        Some(output) if watch.keep_result(text) => Refusal::UnwrittenButKept(output),
         _ => Refusal::Unwritten,
     }
 }
