@@ -1,5 +1,6 @@
 //! The messages of faults.
 
+use crate::texts::expect;
 use std::alloc::Global;
 use std::process::Abort;
 use tk_text::{Keyword, TextFault, TextKind};
@@ -12,7 +13,7 @@ fn expect_messages(rt: &impl Abort, alloc: Global, rows: &[(TextKind, &str)]) {
             kind: *kind,
         };
         let told = format!(in alloc; "{fault}").expect(rt, "memory for a line");
-        assert!(rt; told.as_str() == *message);
+        expect(rt, told.as_str() == *message);
     }
 }
 

@@ -1,20 +1,21 @@
 //! Integers and decimals.
 
+use crate::texts::expect;
 use std::process::Abort;
 use tk_text::{TextKind, decimal, integer};
 
 /// Checks that each text is read as this integer, or as none.
 fn expect_integers(rt: &impl Abort, rows: &[(&[u8], Option<i64>)]) {
     for (text, want) in rows {
-        assert!(rt; integer(text) == *want);
+        expect(rt, integer(text) == *want);
     }
 }
 
 /// Checks that each text is read as this decimal, in units of 10^-9, or has this fault.
 fn expect_decimals(rt: &impl Abort, rows: &[(&[u8], Result<i64, TextKind>)]) {
     for (text, want) in rows {
-        assert!(rt; text.len() <= 64);
-        assert!(rt; decimal(text) == *want);
+        expect(rt, text.len() <= 64);
+        expect(rt, decimal(text) == *want);
     }
 }
 

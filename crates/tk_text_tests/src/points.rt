@@ -1,5 +1,6 @@
 //! Points are stored as whole numbers until one of them has a fraction.
 
+use crate::texts::expect;
 use std::alloc::AllocError;
 use tk_text::{Places, Point, Points};
 
@@ -40,11 +41,11 @@ fn are_three(points: &Points, wanted: &[Point; 3]) -> bool {
 fn whole_until_a_fraction(rt: HostRuntime) -> Result<(), AllocError> {
     let mut points = Points::at_origin(rt.alloc(), 3)?;
     points.set(1, WHOLE)?;
-    assert!(rt; are_whole(&points));
-    assert!(rt; are_three(&points, &[ORIGIN, WHOLE, ORIGIN]));
+    expect(&rt, are_whole(&points));
+    expect(&rt, are_three(&points, &[ORIGIN, WHOLE, ORIGIN]));
     points.set(2, FINE)?;
-    assert!(rt; !are_whole(&points));
+    expect(&rt, !are_whole(&points));
     points.set(0, FINE_LOW)?;
-    assert!(rt; are_three(&points, &[FINE_LOW, WHOLE, FINE]));
+    expect(&rt, are_three(&points, &[FINE_LOW, WHOLE, FINE]));
     Ok(())
 }

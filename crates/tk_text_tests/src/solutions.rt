@@ -1,7 +1,7 @@
 //! Solution texts, read at once and byte by byte.
 
 use crate::fakes::Drip;
-use crate::texts::repeated;
+use crate::texts::{expect, repeated};
 use std::alloc::Global;
 use std::process::Abort;
 use tk_text::{FromRead, Keyword, SolText, TextFault, TextKind, read_solution};
@@ -63,30 +63,32 @@ fn refuses(alloc: Global, text: &[u8], line: u64, kind: TextKind) -> bool {
 /// Checks that each text has the fault next to it.
 fn refuse(rt: &impl Abort, alloc: Global, rows: &[(&[u8], u64, TextKind)]) {
     for (text, line, kind) in rows {
-        assert!(rt; refuses(alloc, text, *line, *kind));
+        expect(rt, refuses(alloc, text, *line, *kind));
     }
 }
 
 #[test]
 fn routes_and_cost(rt: HostRuntime) {
     let a = rt.alloc();
-    assert!(rt;
+    expect(
+        &rt,
         tells(
             a,
             b"Route #1: 1 2\nRoute #2: 3 4\nCost 44\n",
             &[&[1, 2], &[3, 4]],
-            44
-        )
+            44,
+        ),
     );
-    assert!(rt;
+    expect(
+        &rt,
         tells(
             a,
             b" Route 0: 3\nRoute #1:\n Route +1:2 1\r\ncost : 18\nEOF\n",
             &[&[3], &[], &[2, 1]],
-            18
-        )
+            18,
+        ),
     );
-    assert!(rt; tells(a, b"Cost 46\nVEHICLES #2: 1", &[], 46));
+    expect(&rt, tells(a, b"Cost 46\nVEHICLES #2: 1", &[], 46));
 }
 
 #[test]
@@ -120,7 +122,10 @@ fn failing_sources_of_solutions(rt: HostRuntime) {
         (b"Roux", 1, TextKind::UnknownKeyword),
     ];
     for (text, line, kind) in rows {
-        assert!(rt; is_fault(read_dripping(rt.alloc(), text, true), *line, *kind));
+        expect(
+            &rt,
+            is_fault(read_dripping(rt.alloc(), text, true), *line, *kind),
+        );
     }
 }
 
@@ -140,7 +145,7 @@ fn expect_count(
     wanted: Result<usize, TextFault>,
 ) {
     let text = repeated(rt, alloc, b"", line, times, last);
-    assert!(rt; count_routes(alloc, &text) == wanted);
+    expect(rt, count_routes(alloc, &text) == wanted);
 }
 
 #[test]

@@ -1,5 +1,6 @@
 //! Bytes that are read from a slice of memory, and written to a vector.
 
+use crate::texts::{expect, expect_bytes};
 use tk_text::{FromRead, Sink, Source, ToWrite};
 
 #[test]
@@ -7,14 +8,18 @@ fn reads_bytes(rt: HostRuntime) {
     let text: &[u8] = b"EOF\n-1";
     let mut source = FromRead::new(text);
     let mut bytes = [0; 4];
-    assert!(rt; source.read(&mut bytes) == Ok(4) && &bytes == b"EOF\n");
-    assert!(rt; source.read(&mut bytes) == Ok(2) && &bytes == b"-1F\n");
-    assert!(rt; source.read(&mut bytes) == Ok(0) && !source.failed());
+    expect(&rt, source.read(&mut bytes) == Ok(4));
+    expect_bytes(&rt, &bytes, b"EOF\n");
+    expect(&rt, source.read(&mut bytes) == Ok(2));
+    expect_bytes(&rt, &bytes, b"-1F\n");
+    expect(&rt, source.read(&mut bytes) == Ok(0));
+    expect(&rt, !source.failed());
 }
 
 #[test]
 fn writes_bytes(rt: HostRuntime) {
     let mut sink = ToWrite::new(Vec::new(rt.alloc()));
-    assert!(rt; sink.write(b"EOF") == Ok(3) && !sink.failed());
-    assert!(rt; sink.inner.as_slice() == b"EOF".as_slice());
+    expect(&rt, sink.write(b"EOF") == Ok(3));
+    expect(&rt, !sink.failed());
+    expect_bytes(&rt, &sink.inner, b"EOF");
 }

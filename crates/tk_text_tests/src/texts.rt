@@ -1,7 +1,20 @@
-//! Builds texts for tests.
+//! Checks of tests, and texts that they read.
+ghost use Rattle.std.specs.Prelude.{◌≡◌, true};
 
 use std::alloc::Global;
 use std::process::Abort;
+
+/// Checks that a condition is true. The proof of a call is much shorter than that of an `assert!`.
+pub fn expect(rt: &impl Abort, is: bool)
+    ensures { is ≡ true }
+{
+    assert!(rt; is);
+}
+
+/// Checks that these are the bytes of a text.
+pub fn expect_bytes(rt: &impl Abort, bytes: &[u8], want: &[u8]) {
+    expect(rt, bytes == want);
+}
 
 /// The pieces, one after another.
 pub fn joined(rt: &impl Abort, alloc: Global, pieces: &[&[u8]]) -> Vec<u8> {

@@ -1,7 +1,7 @@
 //! Tour texts, read at once, byte by byte and in small pieces.
 
 use crate::fakes::{Drip, Padded};
-use crate::texts::repeated;
+use crate::texts::{expect, repeated};
 use std::alloc::Global;
 use std::process::Abort;
 use tk_text::{FromRead, Keyword, TEXT_LIMIT, TextFault, TextKind, TourText, read_tour};
@@ -62,21 +62,21 @@ fn refuses(alloc: Global, text: &[u8], line: u64, kind: TextKind) -> bool {
 /// Checks that each text lists the cities next to it.
 fn accept(rt: &impl Abort, alloc: Global, rows: &[(&[u8], &[u32])]) {
     for (text, cities) in rows {
-        assert!(rt; lists(alloc, text, cities));
+        expect(rt, lists(alloc, text, cities));
     }
 }
 
 /// Checks that each text has the fault next to it.
 fn refuse(rt: &impl Abort, alloc: Global, rows: &[(&[u8], u64, TextKind)]) {
     for (text, line, kind) in rows {
-        assert!(rt; refuses(alloc, text, *line, *kind));
+        expect(rt, refuses(alloc, text, *line, *kind));
     }
 }
 
 /// Checks that each text has the fault next to it, read byte by byte from a source that fails after the last byte.
 fn refuse_failing(rt: &impl Abort, alloc: Global, rows: &[(&[u8], u64, TextKind)]) {
     for (text, line, kind) in rows {
-        assert!(rt; is_fault(read_dripping(alloc, text, true), *line, *kind));
+        expect(rt, is_fault(read_dripping(alloc, text, true), *line, *kind));
     }
 }
 
@@ -235,7 +235,7 @@ fn faults_of_lines(rt: HostRuntime) {
 fn refuse_lines(rt: &impl Abort, alloc: Global, rows: &[(&[u8], usize, u64, TextKind)]) {
     for (word, count, line, kind) in rows {
         let text = repeated(rt, alloc, word, b"x", *count, b"\n");
-        assert!(rt; refuses(alloc, &text, *line, *kind));
+        expect(rt, refuses(alloc, &text, *line, *kind));
     }
 }
 
@@ -263,17 +263,18 @@ fn read_padded(alloc: Global, len: u64) -> Result<TourText, TextFault> {
 
 #[test]
 fn a_text_of_the_limit(rt: HostRuntime) {
-    assert!(rt; is_list(read_padded(rt.alloc(), TEXT_LIMIT), &[1]));
+    expect(&rt, is_list(read_padded(rt.alloc(), TEXT_LIMIT), &[1]));
 }
 
 #[test]
 fn a_text_of_one_byte_more(rt: HostRuntime) {
-    assert!(rt;
+    expect(
+        &rt,
         is_fault(
             read_padded(rt.alloc(), TEXT_LIMIT + 1),
             3,
-            TextKind::TooLong
-        )
+            TextKind::TooLong,
+        ),
     );
 }
 
@@ -281,17 +282,19 @@ fn a_text_of_one_byte_more(rt: HostRuntime) {
 #[test]
 fn failing_sources(rt: HostRuntime) {
     let a = rt.alloc();
-    assert!(rt;
+    expect(
+        &rt,
         is_list(
             read_dripping(a, b"TYPE : TOUR\nTOUR_SECTION 1 -1\nEOF\n", true),
-            &[1]
-        )
+            &[1],
+        ),
     );
-    assert!(rt;
+    expect(
+        &rt,
         is_list(
             read_dripping(a, b"TYPE : TOUR\nTOUR_SECTION 1 EOF ", true),
-            &[1]
-        )
+            &[1],
+        ),
     );
     refuse_failing(
         &rt,

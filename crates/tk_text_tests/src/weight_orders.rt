@@ -1,12 +1,13 @@
 //! The cells of weights, in the order of each format.
 
+use crate::texts::expect;
 use std::alloc::Global;
 use std::process::Abort;
 use tk_text::{Format, LowerWeights, Place, WeightCursor};
 
 #[test]
 fn indices(rt: HostRuntime) {
-    assert!(rt; Place { row: 2, column: 2 }.is_diagonal());
+    expect(&rt, Place { row: 2, column: 2 }.is_diagonal());
     let rows: &[(u32, u32, usize)] = &[
         (1, 0, 0),
         (2, 0, 1),
@@ -19,8 +20,8 @@ fn indices(rt: HostRuntime) {
             row: *row,
             column: *column,
         };
-        assert!(rt; !place.is_diagonal());
-        assert!(rt; place.lower_index() == *index);
+        expect(&rt, !place.is_diagonal());
+        expect(&rt, place.lower_index() == *index);
     }
 }
 
@@ -28,12 +29,13 @@ fn indices(rt: HostRuntime) {
 fn walk(rt: &impl Abort, format: Format, cities: u16, places: &[(u32, u32)]) {
     let mut cursor = WeightCursor::new(format, cities as u32);
     for (row, column) in places {
-        assert!(rt; !cursor.is_done());
+        expect(rt, !cursor.is_done());
         let here = cursor.place();
-        assert!(rt; here.row == *row && here.column == *column);
+        expect(rt, here.row == *row);
+        expect(rt, here.column == *column);
         cursor.advance();
     }
-    assert!(rt; cursor.is_done());
+    expect(rt, cursor.is_done());
 }
 
 #[test]
@@ -88,14 +90,14 @@ fn places_of_each_format(rt: HostRuntime) {
 
 /// Takes the next weight, or skips it on the diagonal.
 fn take(rt: &impl Abort, weights: &mut LowerWeights, weight: u32) {
-    assert!(rt; !weights.is_done());
+    expect(rt, !weights.is_done());
     if weights.place().is_diagonal() {
         weights.skip();
         return;
     }
-    assert!(rt; weight <= 9);
+    expect(rt, weight <= 9);
     let before = weights.weight();
-    assert!(rt; before == 0 || before == weight);
+    expect(rt, before == 0 || before == weight);
     weights.push(weight);
 }
 
@@ -104,14 +106,17 @@ fn take_all(rt: &impl Abort, weights: &mut LowerWeights, written: &[u32]) {
     for weight in written {
         take(rt, weights, *weight);
     }
-    assert!(rt; weights.is_done());
+    expect(rt, weights.is_done());
 }
 
 /// Checks that these weights of three cities are read as 7 for cities 1 and 2, 8 for 1 and 3, and 9 for 2 and 3.
 fn read(rt: &impl Abort, alloc: Global, format: Format, written: &[u32]) {
     let mut weights = LowerWeights::new(alloc, format, 3).expect(rt, "memory for three weights");
     take_all(rt, &mut weights, written);
-    assert!(rt; weights.into_weights().as_slice() == [7, 8, 9].as_slice());
+    expect(
+        rt,
+        weights.into_weights().as_slice() == [7, 8, 9].as_slice(),
+    );
 }
 
 #[test]

@@ -2,7 +2,7 @@
 
 use crate::fakes::Drip;
 use crate::problems::told::{Told, is_same_problem, told_by};
-use crate::texts::joined;
+use crate::texts::{expect, joined};
 use std::alloc::Global;
 use std::process::Abort;
 use tk_text::{FromRead, Problem, TextFault, TextKind, read_problem};
@@ -38,8 +38,8 @@ fn is_read_alike(
 pub fn read<A: Abort>(rt: &A, alloc: Global, text: &[u8]) -> Result<Problem, TextFault> {
     let mut source = FromRead::new(text);
     let whole = read_problem(alloc, &mut source);
-    assert!(rt; is_read_alike(alloc, text, 1, &whole));
-    assert!(rt; is_read_alike(alloc, text, 7, &whole));
+    expect(rt, is_read_alike(alloc, text, 1, &whole));
+    expect(rt, is_read_alike(alloc, text, 7, &whole));
     whole
 }
 
@@ -51,13 +51,13 @@ pub fn fault(line: u64, kind: TextKind) -> Option<TextFault> {
 /// Checks that each text has the fault next to it.
 pub fn refuse<A: Abort>(rt: &A, alloc: Global, rows: &[(&[u8], u64, TextKind)]) {
     for (text, line, kind) in rows {
-        assert!(rt; read(rt, alloc, text).err() == fault(*line, *kind));
+        expect(rt, read(rt, alloc, text).err() == fault(*line, *kind));
     }
 }
 
 /// Checks that the text is read as this problem.
 pub fn accept<A: Abort>(rt: &A, alloc: Global, text: &[u8], wanted: &Told<'_>) {
-    assert!(rt; is_accepted(read(rt, alloc, text), wanted));
+    expect(rt, is_accepted(read(rt, alloc, text), wanted));
 }
 
 /// Checks that the first part, followed by each of the last parts, is read as this problem.

@@ -1,6 +1,7 @@
 //! Problem texts from sources that fail.
 
 use crate::problems::read_both_ways::{fault, read_dripping};
+use crate::texts::expect;
 use std::alloc::Global;
 use tk_text::{TextFault, TextKind};
 
@@ -25,10 +26,13 @@ fn is_failed_read(alloc: Global, text: &[u8]) -> bool {
 fn failing_sources(rt: HostRuntime) {
     let a = rt.alloc();
     for end in 0..TEXT.len() {
-        assert!(rt; is_failed_read(a, &TEXT[..end]));
+        expect(&rt, is_failed_read(a, &TEXT[..end]));
     }
-    assert!(rt; is_read_so(a, TEXT, None));
-    assert!(rt; is_read_so(a, &TEXT[..100], fault(9, TextKind::Read)));
-    assert!(rt; is_read_so(a, b"FOO\n", fault(1, TextKind::UnknownKeyword)));
-    assert!(rt; is_read_so(a, b"FOO", fault(1, TextKind::Read)));
+    expect(&rt, is_read_so(a, TEXT, None));
+    expect(&rt, is_read_so(a, &TEXT[..100], fault(9, TextKind::Read)));
+    expect(
+        &rt,
+        is_read_so(a, b"FOO\n", fault(1, TextKind::UnknownKeyword)),
+    );
+    expect(&rt, is_read_so(a, b"FOO", fault(1, TextKind::Read)));
 }

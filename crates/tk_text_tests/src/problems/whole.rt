@@ -2,6 +2,7 @@
 
 use crate::problems::read_both_ways::{accept, accept_each, fault, read};
 use crate::problems::told::{Told, ToldWeights};
+use crate::texts::expect;
 use std::alloc::Global;
 use std::process::Abort;
 use tk_text::{Keyword, Places, PlaneKind, Point, TextFault, TextKind};
@@ -26,8 +27,8 @@ fn grow<A: Abort>(
     wanted: Option<TextFault>,
 ) {
     for byte in bytes {
-        assert!(rt; text.push(*byte).is_ok());
-        assert!(rt; read(rt, alloc, text).err() == wanted);
+        expect(rt, text.push(*byte).is_ok());
+        expect(rt, read(rt, alloc, text).err() == wanted);
     }
 }
 
@@ -41,7 +42,10 @@ fn grow_by<A: Abort>(rt: &A, alloc: Global, text: &mut Vec<u8>, runs: &[Run]) {
 /// Checks each beginning of the text of these parts, and returns the text.
 fn grown<A: Abort>(rt: &A, alloc: Global, parts: &[&[Run]]) -> Vec<u8> {
     let mut text = Vec::new(alloc);
-    assert!(rt; read(rt, alloc, &text).err() == fault(1, TextKind::Missing(Keyword::Type)));
+    expect(
+        rt,
+        read(rt, alloc, &text).err() == fault(1, TextKind::Missing(Keyword::Type)),
+    );
     for runs in parts {
         grow_by(rt, alloc, &mut text, runs);
     }

@@ -1,6 +1,7 @@
 //! The part of a text that a sink takes.
 
 use crate::fakes::FakeSink;
+use crate::texts::{expect, expect_bytes};
 use std::process::Abort;
 use tk_text::{Sink, WriteFault};
 
@@ -15,7 +16,7 @@ fn is_told(told: Result<(), WriteFault>, text: &[u8], limit: usize) -> bool {
 /// Checks that the sink took the text up to its limit, and that the writer reported this.
 pub fn expect_taken(rt: &impl Abort, sink: &FakeSink, told: Result<(), WriteFault>, text: &[u8]) {
     let count = text.len().min(sink.limit);
-    assert!(rt; is_told(told, text, sink.limit));
-    assert!(rt; sink.failed() == (count < text.len()));
-    assert!(rt; sink.taken() == &text[..count]);
+    expect(rt, is_told(told, text, sink.limit));
+    expect(rt, sink.failed() == (count < text.len()));
+    expect_bytes(rt, sink.taken(), &text[..count]);
 }

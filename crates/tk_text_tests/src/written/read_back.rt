@@ -5,6 +5,7 @@ ghost use Rattle.tk_text.specs.ReadBack.{IsSolution, IsTourText};
 ghost use Rattle.tk_text.specs.declared.TextKind.TheVariants as kinds;
 
 use crate::solutions::is_solution;
+use crate::texts::expect;
 use crate::tours::is_list;
 use std::alloc::Global;
 use std::process::Abort;
@@ -54,7 +55,7 @@ fn solution_again(
 #[test]
 fn a_tour_is_read_back(rt: HostRuntime) -> Result<(), WriteFault> {
     let answer = tour_again(rt.alloc(), b"p", 40, &[1, 3, 2, 4])?;
-    assert!(rt; is_list(answer, &[1, 3, 2, 4]));
+    expect(&rt, is_list(answer, &[1, 3, 2, 4]));
     Ok(())
 }
 
@@ -69,6 +70,6 @@ pub fn two_routes(rt: &impl Abort, alloc: Global) -> Vec<Vec<u32>> {
 fn a_solution_is_read_back(rt: HostRuntime) -> Result<(), WriteFault> {
     let routes = two_routes(&rt, rt.alloc());
     let answer = solution_again(rt.alloc(), &routes, 44)?;
-    assert!(rt; is_solution(answer, &[&[1, 2], &[3, 4]], 44));
+    expect(&rt, is_solution(answer, &[&[1, 2], &[3, 4]], 44));
     Ok(())
 }

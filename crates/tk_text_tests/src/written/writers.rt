@@ -1,6 +1,7 @@
 //! The texts of pieces, tours and routes, written completely and to sinks that fail.
 
 use crate::fakes::FakeSink;
+use crate::texts::expect;
 use crate::written::limits::expect_taken;
 use crate::written::read_back::two_routes;
 use std::process::Abort;
@@ -66,16 +67,16 @@ fn write_long<W: Sink>(sink: &mut W) -> Result<(), WriteFault> {
 
 /// Checks that there are 10,001 bytes, and that the last one is `y`.
 fn expect_long(rt: &impl Abort, bytes: &[u8]) {
-    assert!(rt; bytes.len() == 10_001);
-    assert!(rt; bytes[10_000] == b'y');
+    expect(rt, bytes.len() == 10_001);
+    expect(rt, bytes[10_000] == b'y');
 }
 
 #[test]
 fn writes_more_than_a_page(rt: HostRuntime) {
     let mut sink = ToWrite::new(Vec::new(rt.alloc()));
     let told = write_long(&mut sink);
-    assert!(rt; told == Ok(()));
-    assert!(rt; !sink.failed());
+    expect(&rt, told == Ok(()));
+    expect(&rt, !sink.failed());
     expect_long(&rt, sink.inner.as_slice());
 }
 
