@@ -1,6 +1,7 @@
 //! The engine of the search between routes.
 ghost use Rattle.std.specs.Prelude.{⊤};
 
+use crate::checks::{expect_bytes, expect_true};
 use crate::engines::given::{AT_THE_TYPE, SQUARE, UNSUPPORTED};
 use std::alloc::Global;
 use std::process::Abort;
@@ -118,22 +119,28 @@ fn solve(alloc: Global, options: &BetweenOptions, [problem, initial]: [&[u8]; 2]
 #[test]
 fn begins_with_savings_routes(rt: HostRuntime) {
     let solved = solve(rt.alloc(), &from_savings(), [TWO_SIDES, UNSUPPORTED]);
-    assert!(rt; solved.answer == Ok(()));
-    assert!(rt;
+    expect_true(&rt, solved.answer == Ok(()));
+    expect_true(
+        &rt,
         solved.shown
             == Counts {
                 names: 1,
                 trials: 51,
-                runs: 1
-            }
+                runs: 1,
+            },
     );
-    assert!(rt; solved.file.as_slice() == b"Route #1: 1 2\nRoute #2: 3 4\nCost 44\n".as_slice());
-    assert!(rt;
+    expect_bytes(
+        &rt,
+        &solved.file,
+        b"Route #1: 1 2\nRoute #2: 3 4\nCost 44\n",
+    );
+    expect_true(
+        &rt,
         solved.lines.as_slice()
             == b"savings 44, routes 2, candidates 3\n\
             run 1: start 44, best 44, routes 2, trials 50, moves 0, tests 177, swaps 0\n\
             best 44, routes 2\n"
-                .as_slice()
+                .as_slice(),
     );
 }
 
@@ -141,23 +148,29 @@ fn begins_with_savings_routes(rt: HostRuntime) {
 #[test]
 fn begins_with_a_solution(rt: HostRuntime) {
     let solved = solve(rt.alloc(), &from_a_solution(), [TWO_SIDES, CROSSING]);
-    assert!(rt; solved.answer == Ok(()));
-    assert!(rt;
+    expect_true(&rt, solved.answer == Ok(()));
+    expect_true(
+        &rt,
         solved.shown
             == Counts {
                 names: 1,
                 trials: 8,
-                runs: 2
-            }
+                runs: 2,
+            },
     );
-    assert!(rt; solved.file.as_slice() == b"Route #1: 1 2\nRoute #2: 3 4\nCost 44\n".as_slice());
-    assert!(rt;
+    expect_bytes(
+        &rt,
+        &solved.file,
+        b"Route #1: 1 2\nRoute #2: 3 4\nCost 44\n",
+    );
+    expect_true(
+        &rt,
         solved.lines.as_slice()
             == b"initial 84, routes 2\n\
             run 1: start 84, best 44, routes 2, trials 3, moves 1, tests 355, swaps 1\n\
             run 2: start 84, best 44, routes 2, trials 3, moves 1, tests 355, swaps 1\n\
             best 44, routes 2\n"
-                .as_slice()
+                .as_slice(),
     );
 }
 
@@ -165,9 +178,10 @@ fn begins_with_a_solution(rt: HostRuntime) {
 fn refuse(rt: &impl Abort, alloc: Global, rows: &[([&[u8]; 2], Fault)]) {
     for (texts, fault) in rows {
         let solved = solve(alloc, &from_a_solution(), *texts);
-        assert!(rt; solved.answer == Err(*fault));
-        assert!(rt; solved.shown == NONE);
-        assert!(rt; solved.file.is_empty() && solved.lines.is_empty());
+        expect_true(rt, solved.answer == Err(*fault));
+        expect_true(rt, solved.shown == NONE);
+        expect_true(rt, solved.file.is_empty());
+        expect_true(rt, solved.lines.is_empty());
     }
 }
 
@@ -231,8 +245,9 @@ fn writes_the_solution_first(rt: HostRuntime) {
         &mut out,
         &mut NONE,
     );
-    assert!(rt; answer == Err(Fault::Write(WriteFault { written: 8 })));
-    assert!(rt; file.failed() && out.inner.is_empty());
+    expect_true(&rt, answer == Err(Fault::Write(WriteFault { written: 8 })));
+    expect_true(&rt, file.failed());
+    expect_true(&rt, out.inner.is_empty());
 }
 
 /// The line of the first run of an outcome; empty if there is none.
@@ -240,7 +255,7 @@ fn first_line(rt: &impl Abort, alloc: Global, outcome: &SearchOutcome) -> Vec<u8
     let mut out = ToWrite::new(Vec::new(alloc));
     if let SearchOutcome::Between(found) = outcome {
         if let Some(run) = found.solved.runs.first() {
-            assert!(rt; write_route_run_line(&mut out, 7, run).is_ok());
+            expect_true(rt, write_route_run_line(&mut out, 7, run).is_ok());
         }
     }
     out.inner
@@ -260,5 +275,8 @@ fn finds_routes(rt: HostRuntime) {
     );
     let outcome = outcome.expect(&rt, "an outcome");
     let line = b"run 7: start 84, best 44, routes 2, trials 3, moves 1, tests 355, swaps 1\n";
-    assert!(rt; first_line(&rt, rt.alloc(), &outcome).as_slice() == line.as_slice());
+    expect_true(
+        &rt,
+        first_line(&rt, rt.alloc(), &outcome).as_slice() == line.as_slice(),
+    );
 }

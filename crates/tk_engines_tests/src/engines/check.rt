@@ -1,4 +1,5 @@
 //! The engine of `check`.
+use crate::checks::expect_true;
 use crate::engines::given::{AT_THE_TYPE, SQUARE, TOUR, UNSUPPORTED, expect};
 use std::alloc::Global;
 use tk_engines::{Fault, TourOutcome, check_engine, tour_outcome, tour_outcome_of};
@@ -49,9 +50,12 @@ fn finds_the_numbers_of_a_verdict(rt: HostRuntime) {
         cities: 4,
         length: 48,
     };
-    assert!(rt; outcome_of(rt.alloc(), TOUR) == Ok(tour));
+    expect_true(&rt, outcome_of(rt.alloc(), TOUR) == Ok(tour));
     let short = TourOutcome::WrongCount { wanted: 4, read: 1 };
-    assert!(rt; outcome_of(rt.alloc(), b"TYPE : TOUR\nTOUR_SECTION\n3 -1\n") == Ok(short));
+    expect_true(
+        &rt,
+        outcome_of(rt.alloc(), b"TYPE : TOUR\nTOUR_SECTION\n3 -1\n") == Ok(short),
+    );
 }
 
 #[test]

@@ -1,4 +1,5 @@
 //! Input texts of engines, and a check of their answers.
+use crate::checks::{expect_bytes, expect_true};
 use std::process::Abort;
 use tk_engines::Fault;
 use tk_text::{TextFault, TextKind};
@@ -32,6 +33,6 @@ pub fn expect<T: PartialEq + Drop>(
     want: Result<T, Fault>,
     text: &[u8],
 ) {
-    assert!(rt; answer == want);
-    assert!(rt; written.as_slice() == text);
+    expect_true(rt, answer == want);
+    expect_bytes(rt, &written, text);
 }

@@ -1,4 +1,5 @@
 //! The engine of `info`.
+use crate::checks::{expect_bytes, expect_true};
 use crate::engines::given::{AT_THE_TYPE, BAKERY, SQUARE, UNSUPPORTED, expect};
 use std::alloc::Global;
 use tk_engines::{Area, DistanceInfo, Fault, RoutingInfo, info_engine, info_outcome};
@@ -66,10 +67,13 @@ fn returns_values(rt: HostRuntime) {
     let Ok(square) = info_outcome(rt.alloc(), &mut FromRead::new(SQUARE)) else {
         panic!(rt; "the square was refused");
     };
-    assert!(rt; square.distances == DistanceInfo::Plane(PlaneKind::Euc2d, area));
-    assert!(rt;
-        square.dimension == 4 && square.routing == None && square.name.as_slice() == b"p".as_slice()
+    expect_true(
+        &rt,
+        square.distances == DistanceInfo::Plane(PlaneKind::Euc2d, area),
     );
+    expect_true(&rt, square.dimension == 4);
+    expect_true(&rt, square.routing == None);
+    expect_bytes(&rt, &square.name, b"p");
     let Ok(bakery) = info_outcome(rt.alloc(), &mut FromRead::new(BAKERY)) else {
         panic!(rt; "the bakery was refused");
     };
@@ -79,5 +83,6 @@ fn returns_values(rt: HostRuntime) {
         demand: 4,
         vehicles: 1,
     };
-    assert!(rt; bakery.distances == DistanceInfo::Explicit && bakery.routing == Some(routing));
+    expect_true(&rt, bakery.distances == DistanceInfo::Explicit);
+    expect_true(&rt, bakery.routing == Some(routing));
 }

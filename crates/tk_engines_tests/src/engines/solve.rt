@@ -1,4 +1,5 @@
 //! The engine of `solve`.
+use crate::checks::{expect_bytes, expect_true};
 use crate::engines::given::{BAKERY, SQUARE, TOUR, UNSUPPORTED};
 use std::alloc::Global;
 use std::process::Abort;
@@ -60,9 +61,9 @@ fn answer_to(rt: &impl Abort, alloc: Global, [params, problem, initial]: [&[u8];
 
 /// Checks that the engine has this answer, and has written these two texts.
 fn expect(rt: &impl Abort, solved: &Solved, want: Result<(), Fault>, [file, lines]: [&[u8]; 2]) {
-    assert!(rt; solved.answer == want);
-    assert!(rt; solved.file.as_slice() == file);
-    assert!(rt; solved.lines.as_slice() == lines);
+    expect_true(rt, solved.answer == want);
+    expect_bytes(rt, &solved.file, file);
+    expect_bytes(rt, &solved.lines, lines);
 }
 
 const FROM_A_TOUR: &[u8] =
@@ -123,8 +124,9 @@ fn writes_the_tour_first(rt: HostRuntime) {
     let mut file = ToWrite::new(room.as_mut_slice());
     let mut out = ToWrite::new(Vec::new(rt.alloc()));
     let answer = solve(rt.alloc(), &params, SQUARE, b"", &mut file, &mut out);
-    assert!(rt; answer == Err(Fault::Write(WriteFault { written: 8 })));
-    assert!(rt; file.failed() && out.inner.is_empty());
+    expect_true(&rt, answer == Err(Fault::Write(WriteFault { written: 8 })));
+    expect_true(&rt, file.failed());
+    expect_true(&rt, out.inner.is_empty());
 }
 
 /// The outcome of the search for routes of the bakery.
@@ -151,7 +153,7 @@ fn costs_in(outcome: &SearchOutcome) -> [i64; 2] {
 fn finds_routes(rt: HostRuntime) {
     let outcome = bakery_outcome(&rt, rt.alloc());
     let mut file = ToWrite::new(Vec::new(rt.alloc()));
-    assert!(rt; write_found(&mut file, &outcome).is_ok());
-    assert!(rt; file.inner.as_slice() == b"Route #1: 3 2 1 4\nCost 53\n".as_slice());
-    assert!(rt; costs_in(&outcome) == [60, 53]);
+    expect_true(&rt, write_found(&mut file, &outcome).is_ok());
+    expect_bytes(&rt, &file.inner, b"Route #1: 3 2 1 4\nCost 53\n");
+    expect_true(&rt, costs_in(&outcome) == [60, 53]);
 }

@@ -1,5 +1,6 @@
 //! Parameters that are built key by key.
 
+use crate::checks::expect_true;
 use std::alloc::Global;
 use std::process::Abort;
 use tk_engines::{Construction, Key, ParamKind, Params, ParamsBuilder, key_of};
@@ -16,19 +17,19 @@ fn built(alloc: Global, settings: &[(Key, &[u8])]) -> Result<Option<Params>, Par
 /// Checks the numbers of the search.
 pub fn expect_numbers<A: Abort>(rt: &A, params: &Params, numbers: [u32; 5]) {
     let [runs, trials, seed, candidates, segment] = numbers;
-    assert!(rt; params.runs() == runs);
-    assert!(rt; params.max_trials() == Some(trials));
-    assert!(rt; params.seed() == seed);
-    assert!(rt; params.max_candidates() == candidates);
-    assert!(rt; params.or_segment() == segment);
+    expect_true(rt, params.runs() == runs);
+    expect_true(rt, params.max_trials() == Some(trials));
+    expect_true(rt, params.seed() == seed);
+    expect_true(rt, params.max_candidates() == candidates);
+    expect_true(rt, params.or_segment() == segment);
 }
 
 /// Checks that file names are taken as they are, and that an ignored key is listed.
 fn expect_words<A: Abort>(rt: &A, params: &Params) {
-    assert!(rt; params.problem_file() == " a ");
-    assert!(rt; params.tour_file() == Some("b"));
-    assert!(rt; params.construction() == Construction::Savings);
-    assert!(rt; params.ignored() == [Key::TraceLevel].as_slice());
+    expect_true(rt, params.problem_file() == " a ");
+    expect_true(rt, params.tour_file() == Some("b"));
+    expect_true(rt, params.construction() == Construction::Savings);
+    expect_true(rt, params.ignored() == [Key::TraceLevel].as_slice());
 }
 
 #[test]
@@ -53,17 +54,32 @@ fn takes_each_key(rt: HostRuntime) {
 #[test]
 fn refuses_values(rt: HostRuntime) {
     let mut builder = ParamsBuilder::new(rt.alloc());
-    assert!(rt; builder.set(Key::Runs, b"0") == Err(ParamKind::BadValue));
-    assert!(rt; builder.set(Key::Runs, b"10001") == Err(ParamKind::BadValue));
-    assert!(rt; builder.set(Key::ProblemFile, b"a$") == Err(ParamKind::DollarInName));
-    assert!(rt; builder.set(Key::ProblemFile, b"") == Err(ParamKind::BadValue));
-    assert!(rt; builder.set(Key::Runs, b"2") == Ok(()));
-    assert!(rt; builder.set(Key::Runs, b"2") == Err(ParamKind::RepeatedKey));
-    assert!(rt; builder.build().is_none());
+    expect_true(
+        &rt,
+        builder.set(Key::Runs, b"0") == Err(ParamKind::BadValue),
+    );
+    expect_true(
+        &rt,
+        builder.set(Key::Runs, b"10001") == Err(ParamKind::BadValue),
+    );
+    expect_true(
+        &rt,
+        builder.set(Key::ProblemFile, b"a$") == Err(ParamKind::DollarInName),
+    );
+    expect_true(
+        &rt,
+        builder.set(Key::ProblemFile, b"") == Err(ParamKind::BadValue),
+    );
+    expect_true(&rt, builder.set(Key::Runs, b"2") == Ok(()));
+    expect_true(
+        &rt,
+        builder.set(Key::Runs, b"2") == Err(ParamKind::RepeatedKey),
+    );
+    expect_true(&rt, builder.build().is_none());
 }
 
 #[test]
 fn words_of_keys(rt: HostRuntime) {
-    assert!(rt; key_of(b"max_Trials") == Some(Key::MaxTrials));
-    assert!(rt; key_of(b"NAME").is_none());
+    expect_true(&rt, key_of(b"max_Trials") == Some(Key::MaxTrials));
+    expect_true(&rt, key_of(b"NAME").is_none());
 }

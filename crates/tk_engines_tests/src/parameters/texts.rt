@@ -1,6 +1,7 @@
 //! Parameter files that are read with enough memory: each key, the defaults, and a fault of each kind.
 ghost use Rattle.std.specs.Prelude.{None, false};
 
+use crate::checks::expect_true;
 use crate::parameters::built::expect_numbers;
 use std::alloc::{AllocError, Global};
 use std::process::Abort;
@@ -66,10 +67,10 @@ fn read(alloc: Global, text: &[u8]) -> Result<Params, ParamFault> {
 /// Checks the names of the files.
 fn expect_files<A: Abort>(rt: &A, params: &Params, problem: &str, others: [&str; 3]) {
     let [tour, solution, initial] = others;
-    assert!(rt; params.problem_file() == problem);
-    assert!(rt; params.tour_file() == Some(tour));
-    assert!(rt; params.solution_file() == Some(solution));
-    assert!(rt; params.initial_tour_file() == Some(initial));
+    expect_true(rt, params.problem_file() == problem);
+    expect_true(rt, params.tour_file() == Some(tour));
+    expect_true(rt, params.solution_file() == Some(solution));
+    expect_true(rt, params.initial_tour_file() == Some(initial));
 }
 
 #[test]
@@ -81,24 +82,24 @@ fn reads_each_key(rt: HostRuntime) {
     let params = read(rt.alloc(), text).expect(&rt, "no fault");
     expect_files(&rt, &params, "= p", ["a b", "s", "t"]);
     expect_numbers(&rt, &params, [10_000, 1_000_000, 4_294_967_295, 100, 1]);
-    assert!(rt; params.construction() == Construction::Savings);
-    assert!(rt; params.final_sweep());
-    assert!(rt; params.ignored() == [Key::Optimum].as_slice());
+    expect_true(&rt, params.construction() == Construction::Savings);
+    expect_true(&rt, params.final_sweep());
+    expect_true(&rt, params.ignored() == [Key::Optimum].as_slice());
 }
 
 #[test]
 fn shows_a_key_as_its_word(rt: HostRuntime) {
     each_word_spells_its_key();
-    assert!(rt; Key::PatchingA.word() == "PATCHING_A");
+    expect_true(&rt, Key::PatchingA.word() == "PATCHING_A");
     let shown = format!(in rt.alloc(); "ignored {}", Key::MoveType).expect(&rt, "memory");
-    assert!(rt; shown.as_str() == "ignored MOVE_TYPE");
+    expect_true(&rt, shown.as_str() == "ignored MOVE_TYPE");
 }
 
 /// Checks that a text, read at once and byte by byte, has this fault.
 fn refuse<A: Abort>(rt: &A, alloc: Global, text: &[u8], line: u64, kind: ParamKind) {
     let fault = Some(ParamFault { line, kind });
-    assert!(rt; read(alloc, text).err() == fault);
-    assert!(rt; read_dripping(alloc, text, false).err() == fault);
+    expect_true(rt, read(alloc, text).err() == fault);
+    expect_true(rt, read_dripping(alloc, text, false).err() == fault);
 }
 
 #[test]
@@ -167,7 +168,7 @@ fn stops_at_the_limit(rt: HostRuntime) {
         line: 1_048_577,
         kind: ParamKind::TooLong,
     });
-    assert!(rt; fault == too_long);
+    expect_true(&rt, fault == too_long);
 }
 
 /// The failure of a source is reported if the text does not end before it.
@@ -178,6 +179,9 @@ fn tells_a_fault_of_the_source(rt: HostRuntime) {
         line: 2,
         kind: ParamKind::Read,
     });
-    assert!(rt; fault == read);
-    assert!(rt; read_dripping(rt.alloc(), b"PROBLEM_FILE = p\nEOF\n", true).is_ok());
+    expect_true(&rt, fault == read);
+    expect_true(
+        &rt,
+        read_dripping(rt.alloc(), b"PROBLEM_FILE = p\nEOF\n", true).is_ok(),
+    );
 }

@@ -1,4 +1,5 @@
 //! Pictures, byte by byte.
+use crate::checks::{expect_bytes, expect_true};
 use crate::pictures::given::{EXPLICIT, Given, RECTANGLE, SHOP, plotted};
 use std::process::Abort;
 use tk_engines::{Fault, Plotted};
@@ -88,9 +89,9 @@ fn expect(
     drawn: &[u8],
     told: &[u8],
 ) {
-    assert!(rt; given.answer == answer);
-    assert!(rt; given.drawn.as_slice() == drawn);
-    assert!(rt; given.told.as_slice() == told);
+    expect_true(rt, given.answer == answer);
+    expect_bytes(rt, &given.drawn, drawn);
+    expect_bytes(rt, &given.told, told);
 }
 
 #[test]

@@ -1,4 +1,5 @@
 //! Pages, byte by byte.
+use crate::checks::expect_true;
 use crate::pictures::drawn::ROUTES;
 use crate::pictures::given::{SHOP, plotted_as};
 use tk_engines::{Form, Parts, Plotted, RouteVerdict};
@@ -56,11 +57,11 @@ fn draws_routes_in_a_page(rt: HostRuntime) {
     let solution = b"Route #1: 2\nRoute #2:\nRoute #3: 1\nCost 6\n";
     let given = plotted_as(rt.alloc(), SHOP, Some(solution), Form::Page(PARTS));
     let valid = RouteVerdict::Valid { routes: 2, cost: 6 };
-    assert!(rt; given.answer == Ok(Plotted::Routes(valid)));
+    expect_true(&rt, given.answer == Ok(Plotted::Routes(valid)));
     let page = given.drawn.as_slice();
     let (opening, page) = page.split_at(OPENING.len().min(page.len()));
     let (picture, rest) = page.split_at(ROUTES.len().min(page.len()));
-    assert!(rt; opening == OPENING);
-    assert!(rt; picture == ROUTES);
-    assert!(rt; rest == REST);
+    expect_true(&rt, opening == OPENING);
+    expect_true(&rt, picture == ROUTES);
+    expect_true(&rt, rest == REST);
 }

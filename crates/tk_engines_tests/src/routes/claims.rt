@@ -1,4 +1,5 @@
 //! Worked examples of the check of routes.
+use crate::checks::expect_true;
 use std::alloc::{AllocError, Global};
 use std::test::Fail;
 use tk_routes::{Cvrp, RouteVerdict, check_routes};
@@ -65,9 +66,9 @@ fn two_routes(rt: HostRuntime) -> Result<(), Fail> {
         cost: 44,
     });
     let told = verdict(rt.alloc(), TWO_SIDES, &[&[1, 2], &[3, 4]], 44)?;
-    assert!(rt; told == valid);
+    expect_true(&rt, told == valid);
     let told = verdict(rt.alloc(), TWO_SIDES, &[&[], &[2, 1], &[], &[3, 4]], 44)?;
-    assert!(rt; told == valid);
+    expect_true(&rt, told == valid);
     Ok(())
 }
 
@@ -87,7 +88,10 @@ fn first_faults(rt: HostRuntime) -> Result<(), Fail> {
         (&[&[1, 2], &[3, 4]], RouteVerdict::WrongCost(45, 44)),
     ];
     for (routes, fault) in faults {
-        assert!(rt; verdict(rt.alloc(), TWO_SIDES, routes, 45)? == Some(*fault));
+        expect_true(
+            &rt,
+            verdict(rt.alloc(), TWO_SIDES, routes, 45)? == Some(*fault),
+        );
     }
     Ok(())
 }
@@ -98,12 +102,15 @@ fn depot_that_is_not_the_first_node(rt: HostRuntime) -> Result<(), Fail> {
         routes: 1,
         cost: 22,
     });
-    assert!(rt; verdict(rt.alloc(), DEPOT_BETWEEN, &[&[1, 2]], 22)? == valid);
+    expect_true(
+        &rt,
+        verdict(rt.alloc(), DEPOT_BETWEEN, &[&[1, 2]], 22)? == valid,
+    );
     Ok(())
 }
 
 #[test]
 fn no_routing_of_a_tsp(rt: HostRuntime) -> Result<(), Fail> {
-    assert!(rt; verdict(rt.alloc(), TSP, &[&[1]], 10)?.is_none());
+    expect_true(&rt, verdict(rt.alloc(), TSP, &[&[1]], 10)?.is_none());
     Ok(())
 }

@@ -3,6 +3,7 @@ ghost use Rattle.std.specs.Prelude.{◌≡◌, IfOk};
 ghost use Rattle.tk_routes.specs.Cvrps.{instance_of};
 ghost use Rattle.tk_routes.specs.RouteLists.{instance_of_routes};
 
+use crate::checks::expect_true;
 use crate::routes::claims::{DEPOT_BETWEEN, TWO_SIDES, claim, problem_of};
 use std::alloc::{AllocError, Global};
 use std::test::Fail;
@@ -101,14 +102,15 @@ fn solves(
 fn two_sides_of_the_depot(rt: HostRuntime) -> Result<(), Fail> {
     let told = report(44, 44, [0, 36, 0]);
     for problem in [TWO_SIDES, ROOM_FOR_ALL] {
-        assert!(rt;
+        expect_true(
+            &rt,
             solves(
                 rt.alloc(),
                 problem,
                 &[&[1, 2], &[3, 4]],
                 &[&[1, 2], &[3, 4]],
-                told
-            )?
+                told,
+            )?,
         );
     }
     Ok(())
@@ -118,7 +120,10 @@ fn two_sides_of_the_depot(rt: HostRuntime) -> Result<(), Fail> {
 #[test]
 fn depot_that_is_not_the_first_node(rt: HostRuntime) -> Result<(), Fail> {
     let told = report(22, 22, [0, 18, 0]);
-    assert!(rt; solves(rt.alloc(), DEPOT_BETWEEN, &[&[1, 2]], &[&[1, 2]], told)?);
+    expect_true(
+        &rt,
+        solves(rt.alloc(), DEPOT_BETWEEN, &[&[1, 2]], &[&[1, 2]], told)?,
+    );
     Ok(())
 }
 
@@ -127,7 +132,10 @@ fn depot_that_is_not_the_first_node(rt: HostRuntime) -> Result<(), Fail> {
 #[test]
 fn one_move_of_seven(rt: HostRuntime) -> Result<(), Fail> {
     let told = report(60, 53, [1, 134, 1]);
-    assert!(rt; solves(rt.alloc(), LISTED, &[&[3, 1, 2, 4]], &[&[3, 2, 1, 4]], told)?);
+    expect_true(
+        &rt,
+        solves(rt.alloc(), LISTED, &[&[3, 1, 2, 4]], &[&[3, 2, 1, 4]], told)?,
+    );
     Ok(())
 }
 
@@ -136,23 +144,25 @@ fn one_move_of_seven(rt: HostRuntime) -> Result<(), Fail> {
 #[test]
 fn equal_savings(rt: HostRuntime) -> Result<(), Fail> {
     let told = report(50, 50, [0, 22, 0]);
-    assert!(rt;
+    expect_true(
+        &rt,
         solves(
             rt.alloc(),
             EQUAL_PAIRS,
             &[&[1, 2], &[3]],
             &[&[1, 2], &[3]],
-            told
-        )?
+            told,
+        )?,
     );
-    assert!(rt;
+    expect_true(
+        &rt,
         solves(
             rt.alloc(),
             EQUAL_WITH_THE_LAST,
             &[&[1, 3], &[2]],
             &[&[1, 3], &[2]],
-            told
-        )?
+            told,
+        )?,
     );
     Ok(())
 }
