@@ -71,7 +71,7 @@ pub trait Gains {
             result (test_count self.old) (test_count self.new) }
         ensures same { (distance self.new ≡ distance self.old) × (size_of self.new ≡ size_of self.old) }
     {
-        let _counted = self.tests();
+        let _counted = self.tests(); // the count at the start, for the proof
         for offer in offers {
             let gain = self.gain(offer);
             if gain > 0 && rule.allows(tour, offer) {
@@ -106,7 +106,7 @@ pub trait Gains {
         ensures bound { test_count self.new ≤ test_count self.old + 4 * or_segment * near.now.width }
         ensures same { (distance self.new ≡ distance self.old) × (size_of self.new ≡ size_of self.old) }
     {
-        let _counted = self.tests();
+        let _counted = self.tests(); // the count at the start, for the proof
         for near_city in near.of(city) {
             let offers = offers_with(tour, or_segment, city, *near_city);
             if let Some(found) = self.find_in(tour, rule, offers.as_slice()) {

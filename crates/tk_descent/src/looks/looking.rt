@@ -79,7 +79,7 @@ fn try_or<S: TourStore, M: Metric, R: Rule>(
     ensures { Searched (M.distance metric.now) (R.allowed rule.now (S.cities tour.now)) (or_offer x y segment.now w)
         result count.old count.new }
 {
-    let _counted = *count;
+    let _counted = *count; // the count at the start, for the proof
     if segment.covers(x, y) || segment.covers(x, w) {
         return None;
     }
@@ -98,7 +98,7 @@ fn try_or<S: TourStore, M: Metric, R: Rule>(
 }
 
 /// The gain of moving a segment from x to between y and w, before the length of its new edge to w is subtracted. The
-/// distance from x to y is `across`, and that from y to w is `beside`.
+/// distance from x to y is `across`, and that from y to w is `beside`. Only the contract uses the metric, x, y and w.
 #[inline(always)]
 fn margin_of<M: Metric>(
     metric: &M,
@@ -186,7 +186,7 @@ fn try_segments<S: TourStore, M: Metric, R: Rule>(
     ensures { Searched (M.distance metric.now) (R.allowed rule.now (S.cities tour.now))
         (flat_map (piece_offers x y.now) pieces.now) result count.old count.new }
 {
-    let _counted = *count;
+    let _counted = *count; // the count at the start, for the proof
     for piece in pieces {
         if let Some(found) = try_piece(tour, metric, rule, count, x, piece, y, across) {
             return Some(found);
