@@ -1,21 +1,21 @@
 # Functions that the run.sh scripts of the benchmarks share. Each script sets $here to its directory before it sources this file.
 
-# Compiles the baseline, twin.rs in $here or in another directory. Sets $work to a directory outside the repository, and $twin.
-compile_twin() {
+# Compiles the baseline, baseline.rs in $here or in another directory. Sets $work to a directory outside the repository, and $baseline.
+compile_baseline() {
     work=${TMPDIR:-/tmp}/tourkit-bench-$(basename "$here")
     mkdir -p "$work"
-    twin=$work/twin
-    rustc --edition 2024 -C opt-level=3 --check-cfg 'cfg(segments)' -o "$twin" "${1:-$here}/twin.rs"
+    baseline=$work/baseline
+    rustc --edition 2024 -C opt-level=3 --check-cfg 'cfg(segments)' -o "$baseline" "${1:-$here}/baseline.rs"
 }
 
-# Finds the program of the crate tk_bench, which `rt run` proves and builds, and compiles the baseline. Sets $program, $work and $twin.
+# Finds the program of the crate tk_bench, which `rt run` proves and builds, and compiles the baseline. Sets $program, $work and $baseline.
 find_programs() {
     program=$here/../../crates/tk_bench/out/tk_bench
     if [ ! -x "$program" ]; then
         echo "$0: there is no crates/tk_bench/out/tk_bench; \`rt run\` in crates/tk_bench proves and builds it" >&2
         exit 2
     fi
-    compile_twin
+    compile_baseline
 }
 
 # Runs a command and prints its processor time (user and system) in seconds. Its output goes to the files NAME.out and NAME.err of $work.

@@ -11,7 +11,7 @@ find_programs
 round=0
 while [ "$round" -lt "${1:-5}" ]; do
     "$program" descent | sed 's/^/rattle /'
-    "$twin"
+    "$baseline"
     round=$((round + 1))
 done | awk '
     { key = $2 " " $3; counts = $4 " " $6 " " $7 " " $8; rate = $4 / $5 * 1000 }

@@ -10,7 +10,7 @@ rm -f "$work/rattle.txt" "$work/rust.txt"
 round=0
 while [ "$round" -lt "${1:-3}" ]; do
     "$program" distances >> "$work/rattle.txt"
-    "$twin" >> "$work/rust.txt"
+    "$baseline" >> "$work/rust.txt"
     round=$((round + 1))
 done
 python3 "$here/compare.py" "$work/rattle.txt" "$work/rust.txt"

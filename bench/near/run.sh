@@ -9,7 +9,7 @@ find_programs
 round=0
 while [ "$round" -lt "${1:-3}" ]; do
     taskset -c "${2:-0}" "$program" near | sed 's/^/rattle /'
-    taskset -c "${2:-0}" "$twin" | sed 's/^/rust /'
+    taskset -c "${2:-0}" "$baseline" | sed 's/^/rust /'
     round=$((round + 1))
 done | awk '
     { task = $2 " " $3 }

@@ -2,9 +2,9 @@
 """Runs two programs in turn on each input of the current directory, and prints their times side by side. The file NAME.words contains the
 words after `solve`, which lets the solution be written to NAME.out.
 
-usage: compare.py ROUNDS TWIN [TOURKIT]
+usage: compare.py ROUNDS BASELINE [TOURKIT]
 
-The twin runs twice: without options, and with --whole.
+The baseline runs twice: without options, and with --whole.
 """
 import glob
 import os
@@ -29,11 +29,11 @@ def run(program, name, *flags):
 
 
 def main():
-    rounds, twin = int(sys.argv[1]), sys.argv[2]
-    runs = {"twin": [twin], "whole": [twin, "--whole"]}
+    rounds, baseline = int(sys.argv[1]), sys.argv[2]
+    runs = {"baseline": [baseline], "whole": [baseline, "--whole"]}
     if len(sys.argv) > 3:
         runs["tourkit"] = [sys.argv[3]]
-    print(f"{'input':<18}{'tourkit ms':>12}{'twin ms':>10}{'ratio':>7}{'whole ms':>10}{'ratio':>7}{'bytes':>8}{'routes':>8}")
+    print(f"{'input':<18}{'tourkit ms':>12}{'baseline ms':>12}{'ratio':>7}{'whole ms':>10}{'ratio':>7}{'bytes':>8}{'routes':>8}")
     inputs = [file.removesuffix(".words") for file in glob.glob("*.words")]
     for name in sorted(inputs, key=lambda name: ("between" in name, len(name.split("-")[0]), len(name), name)):
         least, texts = {}, []
@@ -44,9 +44,9 @@ def main():
                 texts.append(written)
         same = "same" if all(written == texts[0] for written in texts) else "differ"
         tourkit = least.get("tourkit")
-        ratios = [f"{tourkit / least[variant]:.2f}" if tourkit else "-" for variant in ["twin", "whole"]]
+        ratios = [f"{tourkit / least[variant]:.2f}" if tourkit else "-" for variant in ["baseline", "whole"]]
         print(
-            f"{name:<18}{f'{tourkit:.2f}' if tourkit else '-':>12}{least['twin']:>10.2f}{ratios[0]:>7}"
+            f"{name:<18}{f'{tourkit:.2f}' if tourkit else '-':>12}{least['baseline']:>12.2f}{ratios[0]:>7}"
             f"{least['whole']:>10.2f}{ratios[1]:>7}{same:>8}{texts[0][1].count(b'Route'):>8}"
         )
 

@@ -7,7 +7,7 @@ here=$(cd "$(dirname "$0")" && pwd)
 . "$here/../programs.sh"
 find_programs
 "$program" savings > "$work/rattle"
-"$twin" > "$work/rust"
+"$baseline" > "$work/rust"
 paste -d ' ' "$work/rattle" "$work/rust" | awk '
     { half = NF / 2; same = 1; for (i = 7; i <= half; i++) if ($i != $(i + half)) same = 0
       print $1, $2, $3, $4, $5, "rattle", $6, "us, rust", $(6 + half), "us,", same ? "the same cities" : "OTHER CITIES" }'

@@ -1,14 +1,14 @@
 #!/bin/bash
-# Times `tourkit solve` against its baselines in plain Rust (the twins), and compares what they write.
+# Times `tourkit solve` against its baselines in plain Rust, and compares what they write.
 #
 # usage: bench/solve/run.sh [-n ROUNDS] [-s] [TOURKIT]
 #
-# TOURKIT is a program with the command solve; without it, the twin at its best is used instead. With -s, each input has a hundredth of the
+# TOURKIT is a program with the command solve; without it, the baseline at its best is used instead. With -s, each input has a hundredth of the
 # trials. The table contains the shortest processor time (user and system) of all rounds, 3 by default, in seconds, of tourkit and of three
-# variants of the twin, with the ratios of tourkit's time to theirs:
+# variants of the baseline, with the ratios of tourkit's time to theirs:
 # - same-method: the tour is kept in an array, and the search uses the method of tourkit;
 # - whole: the tour is divided into segments, all offers of a candidate are tested at once, and square roots are those of integers;
-# - at-best: like whole, but with the square roots of the processor (see twin.rs).
+# - at-best: like whole, but with the square roots of the processor (see baseline.rs).
 set -eu
 here=$(cd "$(dirname "$0")" && pwd)
 . "$here/../programs.sh"
@@ -23,9 +23,9 @@ while getopts n:s option; do
 done
 shift $((OPTIND - 1))
 tourkit=${1:+$(readlink -f "$1")}
-compile_twin
-best=$work/twin-segments
-rustc --edition 2024 -C opt-level=3 --check-cfg 'cfg(segments)' --cfg segments -o "$best" "$here/twin.rs"
+compile_baseline
+best=$work/baseline-segments
+rustc --edition 2024 -C opt-level=3 --check-cfg 'cfg(segments)' --cfg segments -o "$best" "$here/baseline.rs"
 rm -rf "$work/in"
 python3 "$here/instances.py" "$work/in" "$divisor"
 cd "$work/in"
@@ -54,7 +54,7 @@ for parameters in *.par; do
     while [ "$round" -lt "$rounds" ]; do
         timed best "$best" "$parameters" >>"$work/best.times"
         timed whole "$best" "$parameters" --whole >>"$work/whole.times"
-        timed method "$twin" "$parameters" --same-method >>"$work/method.times"
+        timed method "$baseline" "$parameters" --same-method >>"$work/method.times"
         timed tourkit "${tourkit:-$best}" "$parameters" >>"$work/tourkit.times"
         for one in best whole method; do
             cmp -s "$work/$one.out" "$work/tourkit.out" && cmp -s "$work/$one.file" "$work/tourkit.file" || bytes=differ

@@ -10,7 +10,7 @@ find_programs
 round=0
 while [ "$round" -lt "${1:-15}" ]; do
     nice -n -19 "$program" tour 2> "$work/errors" | sed 's/^/rattle /'
-    nice -n -19 "$twin" 2> "$work/errors" | sed 's/^/rust /'
+    nice -n -19 "$baseline" 2> "$work/errors" | sed 's/^/rust /'
     round=$((round + 1))
 done > "$work/times"
 awk '

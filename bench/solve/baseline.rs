@@ -1,7 +1,7 @@
 //! `tourkit solve` in plain Rust: the same files, the same search, the same bytes.
 //!
-//! usage: twin solve PAR [--times] [--as-given] [--whole] [--same-method]
-//!        twin solve CVRP OPTION.. [--times] [--whole] [--same-method]
+//! usage: baseline solve PAR [--times] [--as-given] [--whole] [--same-method]
+//!        baseline solve CVRP OPTION.. [--times] [--whole] [--same-method]
 //!
 //! With options of `tourkit solve` (-o, --runs, --trials, --seed, --candidates, --or-segment, --final-sweep), it searches between the routes
 //! of a CVRP. Its own options are these:
@@ -216,7 +216,7 @@ fn main() {
             let same = has("--same-method");
             (file, Flags { times: has("--times"), as_given: same || has("--as-given"), whole: same || has("--whole"), same_method: same })
         }
-        _ => fail(2, "usage: twin solve PAR|CVRP [OPTIONS]".to_string()),
+        _ => fail(2, "usage: baseline solve PAR|CVRP [OPTIONS]".to_string()),
     };
     let mut times = Times { begin: Instant::now(), parts: vec![] };
     let options = params::read_options(parameter_file, &words[2..]).unwrap_or_else(|what| fail(2, what));

@@ -331,7 +331,7 @@ impl Search<'_> {
     fn tell(&self, phase: u32, trials: u32, took: u128) {
         let n = self.tour.order.len();
         let Search { moves, tests, better, gained, .. } = self;
-        println!("twin {n} {phase} {trials} {took} {moves} {tests} {} {better} {gained}", self.tour.swaps);
+        println!("baseline {n} {phase} {trials} {took} {moves} {tests} {} {better} {gained}", self.tour.swaps);
     }
 }
 

@@ -1,7 +1,7 @@
 //! `tourkit check` in plain Rust: it reads the same files, with the same checks, and prints the same line.
 //!
-//! usage: twin check PROBLEM TOUR
-//!        twin instances DIR [DIVISOR]
+//! usage: baseline check PROBLEM TOUR
+//!        baseline instances DIR [DIVISOR]
 //!
 //! The second form writes the problems that run.sh reads, each NAME.tsp with a tour NAME.tour, to a directory. Their sizes are divided by
 //! DIVISOR.
@@ -127,6 +127,6 @@ fn main() {
         ["check", problem, tour] => check(problem, tour),
         ["instances", folder] => instances(folder, 1),
         ["instances", folder, divisor] => instances(folder, divisor.parse().unwrap_or(1)),
-        _ => fail(64, "usage: twin check PROBLEM TOUR | twin instances FOLDER [DIVISOR]".to_string()),
+        _ => fail(64, "usage: baseline check PROBLEM TOUR | baseline instances FOLDER [DIVISOR]".to_string()),
     }
 }
