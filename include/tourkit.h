@@ -170,14 +170,14 @@ void tourkit_solve_routes(const uint8_t *problem, size_t problem_size, const uin
                           uint8_t *file, size_t file_size, tourkit_answer *answer);
 
 /* Draws a problem, and if `has_claim` is true, the tour or the routes of a text: `out` gets the picture (SVG), of `needed`
- * bytes. If the tour or the routes have a fault, the status is TOURKIT_FOUND, and `told` gets the line that reports it, of
- * `needed_file` bytes. If a text is rejected, `told` gets the message, of `needed` bytes. */
+ * bytes. If the tour or the routes have a fault, the status is TOURKIT_FOUND, and `reported` gets the line that reports it, of
+ * `needed_file` bytes. If a text is rejected, `reported` gets the message, of `needed` bytes. */
 void tourkit_plot(const uint8_t *problem, size_t problem_size, const uint8_t *claim, size_t claim_size, bool has_claim,
-                  uint8_t *out, size_t out_size, uint8_t *told, size_t told_size, tourkit_answer *answer);
+                  uint8_t *out, size_t out_size, uint8_t *reported, size_t reported_size, tourkit_answer *answer);
 
 /* Like tourkit_plot, but `out` gets an HTML page with the picture, to zoom and pan, and a table of the routes. */
 void tourkit_page(const uint8_t *problem, size_t problem_size, const uint8_t *claim, size_t claim_size, bool has_claim,
-                  uint8_t *out, size_t out_size, uint8_t *told, size_t told_size, tourkit_answer *answer);
+                  uint8_t *out, size_t out_size, uint8_t *reported, size_t reported_size, tourkit_answer *answer);
 
 /* Finds out what is known of a problem: `info` gets the numbers, and `out` the name, of at most 1,024 bytes. If the text is
  * rejected, `out` gets the message, and `info` is unchanged. */

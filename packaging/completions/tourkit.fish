@@ -57,6 +57,8 @@ complete -c tourkit -n '__fish_seen_subcommand_from solve' -l within-routes \
     -d 'move no customers between routes, as with PARAMETERS (CVRP only)'
 complete -c tourkit -n '__fish_seen_subcommand_from solve' -l progress \
     -d 'write each run\'s line to standard error when the run ends'
+complete -c tourkit -n '__fish_seen_subcommand_from solve' -l log -r -F \
+    -d 'append a JSON object to FILE for each improvement of a run'
 complete -c tourkit -n '__fish_seen_subcommand_from solve' -l json -d 'print one JSON object instead of text'
 
 complete -c tourkit -n '__fish_seen_subcommand_from help' -f -a 'check checksol explain info matrix near plot solve help'

@@ -145,7 +145,7 @@ class Text:
 ANY = (-10**18, 10**18)
 
 
-class Form:
+class Handler:
     """The common parts of problem and tour texts: lines, headers and sections."""
 
     def __init__(self, data):
@@ -217,7 +217,7 @@ class Form:
             self.text.at += 1
 
 
-class ProblemForm(Form):
+class ProblemHandler(Handler):
     """Problem texts."""
 
     def take_header(self, key, value, first, begins):
@@ -327,7 +327,7 @@ class ProblemForm(Form):
             raise self.text.fault("Missing", key.decode())
 
 
-class TourForm(Form):
+class TourHandler(Handler):
     """Tour texts."""
 
     def take_header(self, key, value, first, begins):
@@ -372,11 +372,11 @@ def places(form, n):
 
 
 def read_problem(data):
-    return ProblemForm(data).read()
+    return ProblemHandler(data).read()
 
 
 def read_tour(data):
-    return TourForm(data).read()
+    return TourHandler(data).read()
 
 
 def read_solution(data):

@@ -31,19 +31,19 @@ const BENCHMARKS: [(&str, Benchmark); 7] = [
 
 /// A request: a small run of each benchmark, or the run of one.
 #[derive(Clone, Copy)]
-enum Asked {
+enum Request {
     Small,
     One(Benchmark),
 }
 
 /// Reads the arguments of the call, and makes the run that they request.
 pub fn run_call(rt: &HostRuntime) -> ExitCode {
-    let asked = match asked_of_call(rt) {
-        Ok(Some(asked)) => asked,
+    let request = match request_of_call(rt) {
+        Ok(Some(request)) => request,
         Ok(None) => return refused(rt),
         Err(error) => return stopped(rt, &error),
     };
-    match run_asked(rt, asked) {
+    match run_request(rt, request) {
         Ok(()) => ExitCode::SUCCESS,
         Err(error) => stopped(rt, &error),
     }
@@ -53,16 +53,16 @@ pub fn run_call(rt: &HostRuntime) -> ExitCode {
 ///
 /// # Errors
 /// If an argument is not UTF-8, or memory runs out.
-fn asked_of_call(rt: &HostRuntime) -> anyhow::Result<Option<Asked>> {
+fn request_of_call(rt: &HostRuntime) -> anyhow::Result<Option<Request>> {
     let words = std::env::args(rt)?.collect::<Vec<String>>(rt.alloc())?;
-    Ok(asked_by(&words))
+    Ok(request_by(&words))
 }
 
 /// The request of these arguments, the first of which is the name of the program.
-fn asked_by(words: &[String]) -> Option<Asked> {
+fn request_by(words: &[String]) -> Option<Request> {
     match words {
-        [] | [_] => Some(Asked::Small),
-        [_, word] => Some(Asked::One(benchmark_of(word.as_str())?)),
+        [] | [_] => Some(Request::Small),
+        [_, word] => Some(Request::One(benchmark_of(word.as_str())?)),
         _ => None,
     }
 }
@@ -78,10 +78,10 @@ fn benchmark_of(name: &str) -> Option<Benchmark> {
 }
 
 /// Makes the requested runs.
-fn run_asked(rt: &HostRuntime, asked: Asked) -> anyhow::Result<()> {
-    match asked {
-        Asked::Small => run_small(rt),
-        Asked::One(benchmark) => run(rt, Times::Told, benchmark),
+fn run_request(rt: &HostRuntime, request: Request) -> anyhow::Result<()> {
+    match request {
+        Request::Small => run_small(rt),
+        Request::One(benchmark) => run(rt, Times::Reported, benchmark),
     }
 }
 

@@ -19,7 +19,7 @@ use tk_tour::{ArrayTour, TourStore, length};
 /// Makes the run, or the small one if its times are hidden.
 pub fn run(rt: &HostRuntime, times: Times) -> anyhow::Result<()> {
     match times {
-        Times::Told => {
+        Times::Reported => {
             measure(rt, times, 1_000, 52_632)?;
             measure(rt, times, 100_000, 5_465)
         }

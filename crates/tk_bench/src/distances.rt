@@ -81,7 +81,7 @@ const TASKS: [Task<'static>; 8] = [
 /// Makes the run, or the small one if its times are hidden.
 pub fn run(rt: &HostRuntime, times: Times) -> anyhow::Result<()> {
     let (spans, sizes): (&[i64], Sizes) = match times {
-        Times::Told => (
+        Times::Reported => (
             &[10, 1_000, 1_000_000, 100_000_000, 1_000_000_000],
             Sizes {
                 places: 4_200,

@@ -36,7 +36,7 @@ const INPUTS: [(&str, Input); 8] = [
 /// Makes the run, or the small one if its times are hidden.
 pub fn run(rt: &HostRuntime, times: Times) -> anyhow::Result<()> {
     match times {
-        Times::Told => measure_all(
+        Times::Reported => measure_all(
             rt,
             times,
             Sizes {

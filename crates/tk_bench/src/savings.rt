@@ -25,7 +25,7 @@ struct Task<'a> {
 /// Makes the run, or the small one if its times are hidden.
 pub fn run(rt: &HostRuntime, times: Times) -> anyhow::Result<()> {
     match times {
-        Times::Told => {
+        Times::Reported => {
             measure_boxes(rt, times, 100_000, 5)?;
             measure_boxes(rt, times, 100_000, 10)
         }

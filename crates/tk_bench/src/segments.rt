@@ -26,7 +26,7 @@ const REACH: u32 = 50;
 /// Makes the run, or the small one if its times are hidden.
 pub fn run(rt: &HostRuntime, times: Times) -> anyhow::Result<()> {
     match times {
-        Times::Told => {
+        Times::Reported => {
             measure(rt, times, 200, 30_000)?;
             measure(rt, times, 1_000, 30_000)?;
             measure(rt, times, 10_000, 10_000)?;

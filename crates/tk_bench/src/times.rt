@@ -5,7 +5,7 @@ use std::{fmt, io};
 /// Whether the lines of a run contain its times. Those of a stored run do not, since no two runs take the same time.
 #[derive(Clone, Copy)]
 pub enum Times {
-    Told,
+    Reported,
     Hidden,
 }
 
@@ -17,7 +17,7 @@ impl Times {
     /// A time as a line contains it.
     pub fn tell(self, time: u128) -> Time {
         match self {
-            Times::Told => Time(Some(time)),
+            Times::Reported => Time(Some(time)),
             Times::Hidden => Time(None),
         }
     }

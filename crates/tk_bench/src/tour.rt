@@ -13,7 +13,7 @@ use tk_tour::{ArrayTour, TourStore};
 /// Makes the run, or the small one if its times are hidden.
 pub fn run(rt: &HostRuntime, times: Times) -> anyhow::Result<()> {
     match times {
-        Times::Told => {
+        Times::Reported => {
             measure(rt, times, 1_000, 400_000)?;
             measure(rt, times, 100_000, 4_000)
         }

@@ -47,7 +47,11 @@ fn call_for_solution(rt: &HostRuntime) -> Result<(), Stopped> {
 
 /// Prints some values of parameters.
 fn show_params(rt: &HostRuntime, params: &Params) -> Result<(), Stopped> {
-    let (file, runs, ignored) = (params.problem_file(), params.runs(), params.ignored());
+    let (file, runs, ignored) = (
+        params.problem_file(),
+        params.search().runs,
+        params.ignored(),
+    );
     println!(rt; "read_params: {file}, {runs} runs, {ignored:?} ignored")?;
     Ok(())
 }

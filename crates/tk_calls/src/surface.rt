@@ -21,7 +21,7 @@ pub mod limits {
 /// Distances and near lists.
 pub mod distances {
     pub use tk_metric::{
-        BothAxes, Metric, Near, Planar, Planes, Sub, Table, Triangle, Turned, near_among,
+        BothAxes, Metric, Near, Planar, Planes, Sub, SwappedAxes, Table, Triangle, near_among,
         near_lists, near_scan, near_sweep, near_tree, root, root_up,
     };
 }
@@ -37,7 +37,7 @@ pub mod tours {
 /// Descents.
 pub mod descents {
     pub use tk_descent::{
-        Gains, Offer, Probe, Report, Steps, SweptReport, Waking, descend, descend_swept,
+        EdgeCache, Gains, Offer, Probe, Report, SweptReport, Waking, descend, descend_swept,
         is_local_optimum, look, make,
     };
 }
@@ -58,13 +58,13 @@ pub mod routes {
 /// The program as a library.
 pub mod engines {
     pub use tk_engines::{
-        BetweenOptions, Construction, Fault, FoundBetween, FoundRoutes, FoundTour, Key, ParamFault,
-        ParamKind, Params, ParamsBuilder, Plotted, Progress, RouteFault, RouteProgress, RouteRun,
-        RouteVerdict, RouteWatch, SearchOutcome, TourFault, TourOutcome, Unwatched, Verdict, Watch,
-        between_engine, between_outcome, check_engine, key_of, matrix_engine, near_engine,
-        plot_engine, read_params, route_check_engine, route_outcome, route_outcome_of,
-        search_between, search_outcome, search_problem, solve_engine, tour_outcome,
-        tour_outcome_of, write_found, write_route_run_line, write_route_verdict, write_run_line,
-        write_search_lines, write_tour_outcome,
+        BetweenOptions, Construction, Fault, FoundBetween, FoundRoutes, FoundTour, Key, NoObserver,
+        ParamFault, ParamKind, Params, Plotted, Progress, RouteFault, RouteProgress, RouteRun,
+        RouteVerdict, RouteWatch, SearchBuilder, SearchOutcome, SearchSettings, TourFault,
+        TourOutcome, Verdict, Watch, between_engine, between_outcome, check_engine, key_of,
+        matrix_engine, near_engine, plot_engine, read_params, route_check_engine, route_outcome,
+        route_outcome_of, search_between, search_outcome, search_problem, solve_engine,
+        tour_outcome, tour_outcome_of, write_found, write_route_run_line, write_route_verdict,
+        write_run_line, write_search_lines, write_tour_outcome,
     };
 }

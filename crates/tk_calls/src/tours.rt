@@ -5,7 +5,7 @@ use crate::lines::{tell, tell_number};
 use crate::refusals::Stopped;
 use crate::{again, call};
 use std::alloc::{AllocError, Global};
-use tk_descent::{Steps, Waking};
+use tk_descent::{EdgeCache, Waking};
 use tk_segments::SegmentTour;
 use tk_tour::{ArrayTour, Flip, JournalTour, TourStore, check};
 
@@ -99,8 +99,8 @@ fn wake_three(rt: &HostRuntime) -> Result<(), Stopped> {
 /// Makes a cache of edge lengths for three cities.
 fn make_steps(rt: &HostRuntime) -> Result<(), Stopped> {
     let alloc = rt.alloc();
-    let _ = again!(rt, "Steps::new", Steps::new(alloc, 3))?;
-    tell_number(rt, "Steps::new", &3, "cities")
+    let _ = again!(rt, "EdgeCache::new", EdgeCache::new(alloc, 3))?;
+    tell_number(rt, "EdgeCache::new", &3, "cities")
 }
 
 /// Checks two lists, prints a tour, makes a tour in segments, wakes three cities, and makes a cache of edge lengths.

@@ -10,14 +10,14 @@ pub struct Argument {
     /// The name of the argument, by which its value is looked up.
     pub name: &'static str,
     pub help: &'static str,
-    pub form: Form,
+    pub syntax: Syntax,
     /// The values that it accepts.
     pub values: ValueParser<'static>,
 }
 
 /// The syntax of an argument.
 #[derive(Clone, Copy)]
-pub enum Form {
+pub enum Syntax {
     /// A positional argument that is required.
     Required,
     /// A positional argument that is required and can be repeated.
@@ -38,7 +38,7 @@ pub enum Form {
 pub const PROBLEM: Argument = Argument {
     name: "PROBLEM",
     help: "a TSPLIB or CVRPLIB problem file, or - for standard input",
-    form: Form::Required,
+    syntax: Syntax::Required,
     values: ValueParser::String,
 };
 
@@ -46,7 +46,7 @@ pub const PROBLEM: Argument = Argument {
 pub const JSON: Argument = Argument {
     name: "json",
     help: "print one JSON object instead of text",
-    form: Form::Flag,
+    syntax: Syntax::Flag,
     values: ValueParser::Bool,
 };
 
@@ -54,7 +54,7 @@ pub const JSON: Argument = Argument {
 pub const JSON_LINES: Argument = Argument {
     name: "json",
     help: "print one JSON object for each file instead of text",
-    form: Form::Flag,
+    syntax: Syntax::Flag,
     values: ValueParser::Bool,
 };
 
@@ -64,14 +64,14 @@ impl Argument {
         let arg = Arg::new(alloc, self.name)
             .help(self.help)
             .value_parser(self.values);
-        match self.form {
-            Form::Required => arg.required(true),
-            Form::Repeated => arg.required(true).num_args(1..),
-            Form::Optional => arg,
-            Form::Flag => arg.long(self.name).action(ArgAction::SetTrue),
-            Form::Long(value) => arg.long(self.name).value_name(value),
-            Form::File(letter) => arg.short(letter).long(self.name).value_name("FILE"),
-            Form::Number(letter, default) => arg
+        match self.syntax {
+            Syntax::Required => arg.required(true),
+            Syntax::Repeated => arg.required(true).num_args(1..),
+            Syntax::Optional => arg,
+            Syntax::Flag => arg.long(self.name).action(ArgAction::SetTrue),
+            Syntax::Long(value) => arg.long(self.name).value_name(value),
+            Syntax::File(letter) => arg.short(letter).long(self.name).value_name("FILE"),
+            Syntax::Number(letter, default) => arg
                 .short(letter)
                 .value_name("N")
                 .default_value(default),

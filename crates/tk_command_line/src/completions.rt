@@ -1,7 +1,7 @@
 //! The option that requests completions.
 
-use crate::argument::{Argument, Form};
-use crate::asked::Asked;
+use crate::argument::{Argument, Syntax};
+use crate::request::Request;
 use clap::ArgMatches;
 use clap::builder::ValueParser;
 
@@ -20,7 +20,7 @@ const SHELLS: [&str; 3] = ["bash", "zsh", "fish"];
 pub const COMPLETIONS: Argument = Argument {
     name: "completions",
     help: "print the completions for a shell",
-    form: Form::Long("SHELL"),
+    syntax: Syntax::Long("SHELL"),
     values: ValueParser::Names(&SHELLS),
 };
 
@@ -32,12 +32,12 @@ pub fn are_asked(words: &[String]) -> bool {
 }
 
 /// The request for completions, if the arguments contain it.
-pub fn asked<'a>(words: &ArgMatches<'a>) -> Option<Asked<'a>> {
+pub fn request<'a>(words: &ArgMatches<'a>) -> Option<Request<'a>> {
     let shell = match words.get_str(COMPLETIONS.name)? {
         "bash" => Shell::Bash,
         "zsh" => Shell::Zsh,
         "fish" => Shell::Fish,
         _ => return None,
     };
-    Some(Asked::Completions { shell })
+    Some(Request::Completions { shell })
 }

@@ -2,16 +2,16 @@
 #![tactic(auto)]
 
 mod argument;
-mod asked;
 mod command;
 mod completions;
 mod parsing;
+mod request;
 mod search_options;
 mod subcommand;
 mod subcommands;
 mod tips;
 
-pub use asked::{Asked, STANDARD, Shown};
 pub use completions::Shell;
 pub use parsing::{NoRequest, parse};
+pub use request::{DisplayOptions, Request, STANDARD};
 pub use search_options::SearchOptions;

@@ -1,8 +1,8 @@
 //! Parses the arguments of a call.
 
-use crate::asked::{Asked, STANDARD};
 use crate::command::{refused, tourkit};
 use crate::completions;
+use crate::request::{Request, STANDARD};
 use crate::search_options::SearchOptions;
 use crate::subcommand::Kind;
 use crate::subcommands::{check, checksol, explain, info, matrix, named, near, plot, solve};
@@ -20,6 +20,9 @@ const TWICE_STANDARD: &str = "only one file can be '-' (standard input)";
 /// The message if standard input is named as the output file.
 const STANDARD_OUTPUT: &str = "'--output' cannot be '-', which means standard input";
 
+/// The message if standard input is named as the log.
+const STANDARD_LOG: &str = "'--log' cannot be '-', which means standard input";
+
 /// The message if the runs of a search would begin with a tour and with routes.
 const TWO_STARTS: &str =
     "the argument '--initial-tour <TOUR>' cannot be used with '--initial-solution <SOLUTION>'";
@@ -35,17 +38,17 @@ pub enum NoRequest {
     /// Help, the version or the error about the arguments could not be written.
     Unwritten,
     /// It was written, and the program exits with this status.
-    Told(u8),
+    Reported(u8),
 }
 
 /// Parses the arguments of a call. If they do not make a request, writes help, the version or the error about them.
 ///
 /// # Errors
 /// `NoRequest`, as it says.
-pub fn parse<'a>(rt: &HostRuntime, words: &'a [String]) -> Result<Asked<'a>, NoRequest> {
-    match asked(rt.alloc(), words) {
-        Ok(Some(asked)) => Ok(asked),
-        Ok(None) => Err(NoRequest::Told(USAGE)),
+pub fn parse<'a>(rt: &HostRuntime, words: &'a [String]) -> Result<Request<'a>, NoRequest> {
+    match request(rt.alloc(), words) {
+        Ok(Some(request)) => Ok(request),
+        Ok(None) => Err(NoRequest::Reported(USAGE)),
         Err(error) => Err(tell(rt, words, &error)),
     }
 }
@@ -61,18 +64,18 @@ fn tell(rt: &HostRuntime, words: &[String], error: &Error) -> NoRequest {
         Err(_) => return NoRequest::NoMemory,
     };
     match written {
-        Ok(()) => NoRequest::Told(error.exit_code() as u8),
+        Ok(()) => NoRequest::Reported(error.exit_code() as u8),
         Err(_) => NoRequest::Unwritten,
     }
 }
 
 /// The request of the arguments, if they can be parsed and combined.
-fn asked<'a>(alloc: Global, words: &'a [String]) -> Result<Option<Asked<'a>>, Error> {
+fn request<'a>(alloc: Global, words: &'a [String]) -> Result<Option<Request<'a>>, Error> {
     let command = tourkit(alloc, completions::are_asked(words))?;
     let matches = command.try_get_matches_from(words)?;
     match matches.subcommand() {
         Some((name, words)) => asked_of(alloc, name, words),
-        None => Ok(completions::asked(&matches)),
+        None => Ok(completions::request(&matches)),
     }
 }
 
@@ -81,32 +84,33 @@ fn asked_of<'a>(
     alloc: Global,
     name: &str,
     words: &ArgMatches<'a>,
-) -> Result<Option<Asked<'a>>, Error> {
+) -> Result<Option<Request<'a>>, Error> {
     let Some(subcommand) = named(name) else {
         return Ok(None);
     };
-    let asked = asked_by(alloc, subcommand.kind, words)?;
-    match asked.as_ref().and_then(misfit) {
+    let request = asked_by(alloc, subcommand.kind, words)?;
+    match request.as_ref().and_then(misfit) {
         Some(message) => Err(refused(alloc, &subcommand, message)?),
-        None => Ok(asked),
+        None => Ok(request),
     }
 }
 
 /// The message about arguments that cannot be combined.
-fn misfit(asked: &Asked<'_>) -> Option<&'static str> {
-    match asked {
-        Asked::Check { problem, tours, .. } => twice_standard(*problem, tours),
-        Asked::Checksol {
+fn misfit(request: &Request<'_>) -> Option<&'static str> {
+    match request {
+        Request::Check { problem, tours, .. } => twice_standard(*problem, tours),
+        Request::Checksol {
             problem,
             solutions,
             ..
         } => twice_standard(*problem, solutions),
-        Asked::Plot {
+        Request::Plot {
             problem,
             claim: Some(claim),
             ..
         } => twice_standard(*problem, &[*claim]),
-        Asked::Solve {
+        Request::Solve { shown, .. } if shown.log == Some(STANDARD) => Some(STANDARD_LOG),
+        Request::Solve {
             file,
             options: Some(options),
             ..
@@ -160,15 +164,15 @@ fn asked_by<'a>(
     alloc: Global,
     kind: Kind,
     words: &ArgMatches<'a>,
-) -> Result<Option<Asked<'a>>, AllocError> {
+) -> Result<Option<Request<'a>>, AllocError> {
     match kind {
-        Kind::Check => check::asked(alloc, words),
-        Kind::Checksol => checksol::asked(alloc, words),
-        Kind::Explain => Ok(explain::asked(words)),
-        Kind::Info => Ok(info::asked(words)),
-        Kind::Matrix => Ok(matrix::asked(words)),
-        Kind::Near => Ok(near::asked(words)),
-        Kind::Plot => Ok(plot::asked(words)),
-        Kind::Solve => Ok(solve::asked(words)),
+        Kind::Check => check::request(alloc, words),
+        Kind::Checksol => checksol::request(alloc, words),
+        Kind::Explain => Ok(explain::request(words)),
+        Kind::Info => Ok(info::request(words)),
+        Kind::Matrix => Ok(matrix::request(words)),
+        Kind::Near => Ok(near::request(words)),
+        Kind::Plot => Ok(plot::request(words)),
+        Kind::Solve => Ok(solve::request(words)),
     }
 }

@@ -1,6 +1,6 @@
 //! Tips for an argument that a subcommand does not accept.
 
-use crate::argument::{Argument, Form};
+use crate::argument::{Argument, Syntax};
 use crate::subcommand::Subcommand;
 use crate::subcommands::{all, named};
 use clap::Error;
@@ -98,11 +98,11 @@ fn is_named(argument: &Argument, word: &str) -> bool {
         return false;
     };
     let name = name.strip_prefix('-').unwrap_or(name);
-    match argument.form {
-        Form::Flag | Form::Long(_) => name == argument.name,
-        Form::File(letter) => name == argument.name || is_letter(name, letter),
-        Form::Number(letter, _) => is_letter(name, letter),
-        Form::Required | Form::Repeated | Form::Optional => false,
+    match argument.syntax {
+        Syntax::Flag | Syntax::Long(_) => name == argument.name,
+        Syntax::File(letter) => name == argument.name || is_letter(name, letter),
+        Syntax::Number(letter, _) => is_letter(name, letter),
+        Syntax::Required | Syntax::Repeated | Syntax::Optional => false,
     }
 }
 
@@ -113,9 +113,9 @@ fn is_letter(name: &str, letter: char) -> bool {
 
 /// Adds an argument as it is written: an option with its dashes, a positional argument by its name.
 fn push_name(text: &mut String, argument: &Argument) -> Result<(), AllocError> {
-    match argument.form {
-        Form::Flag | Form::Long(_) | Form::File(_) => write!(text, "--{}", argument.name),
-        Form::Number(letter, _) => write!(text, "-{letter}"),
-        Form::Required | Form::Repeated | Form::Optional => text.push_str(argument.name),
+    match argument.syntax {
+        Syntax::Flag | Syntax::Long(_) | Syntax::File(_) => write!(text, "--{}", argument.name),
+        Syntax::Number(letter, _) => write!(text, "-{letter}"),
+        Syntax::Required | Syntax::Repeated | Syntax::Optional => text.push_str(argument.name),
     }
 }

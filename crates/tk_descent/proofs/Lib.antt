@@ -1,4 +1,4 @@
 pub mod Lists
 pub mod MovesOnTours
 pub mod OfferLists
-pub mod WakeRuns
+pub mod WakeExecutions

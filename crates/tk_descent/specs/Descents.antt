@@ -1,5 +1,5 @@
 -- Descents and their reports.
---     Terms, Stand      the input and the state of a descent
+--     DescentInput, DescentState      the input and the state of a descent
 --     Descent      a descent from one state to another, with its report
 --     Sweeping      a swept descent: passes with all cities awake, until one makes no move
 --     IsDescent, IsSweeping      a descent and a swept descent, from a tour, waking cities and gains to those after it
@@ -14,7 +14,7 @@ use Rattle.tk_tour.specs.Counters.{saturated}
 use Rattle.tk_tour.specs.Tour.{tour_length, IsTour}
 use Rattle.tk_tour.specs.declared.store.TourStore as stores
 use Rattle.tk_descent.specs.Awake.{Awake}
-use Rattle.tk_descent.specs.Machine.{RunUnder, IsRunUnder}
+use Rattle.tk_descent.specs.Machine.{ExecutionUnder, IsExecutionUnder}
 use Rattle.tk_descent.specs.Sweeps.{SweepsUnder, AreSweepsUnder}
 use Rattle.tk_descent.specs.WakeMachine.{WakesUnder, IsLocalOptimumUnder, each_cycle}
 use Rattle.tk_descent.specs.declared.descent.Report.{Report}
@@ -25,13 +25,13 @@ use Rattle.tk_descent.specs.Offers.{everything}
 use Rattle.tk_descent.specs.declared.sweep.SweptReport.{SweptReport}
 
 -- the input of a descent: distances, near lists, and the maximum number of cities in the segment of an Or-opt move
-pub record Terms : Type 0 where
+pub record DescentInput : Type 0 where
   pub distance : ℕ → ℕ → ℕ
   pub near : NearLists
   pub or_segment : ℕ
 
 -- the state of a descent: the tour, the cities that are awake, and the numbers of tests, swaps and flips so far
-pub record Stand : Type 0 where
+pub record DescentState : Type 0 where
   pub tour : List ℕ
   pub awake : List ℕ
   pub tests : ℕ
@@ -43,7 +43,7 @@ abbrev pub saved : Report → ℕ
 saved report = unsigned_abs (report.before -ℤ report.after)
 
 -- The report of descents that begin with `looks` looks, and then make at most six for each move.
-pub record IsReported (by : Terms) (from to : Stand) (looks : ℕ) (report : Report) : Type 0 where
+pub record IsReported (by : DescentInput) (from to : DescentState) (looks : ℕ) (report : Report) : Type 0 where
   pub before : report.before ≡ pos (tour_length by.distance from.tour)
   pub after : report.after ≡ pos (tour_length by.distance to.tour)
   pub moves : report.moves + tour_length by.distance to.tour ≤ tour_length by.distance from.tour
@@ -57,11 +57,13 @@ pub record IsReported (by : Terms) (from to : Stand) (looks : ℕ) (report : Rep
 
 -- A descent ends with a tour of the same cities that fits, and with no city awake. Counters of tests saturate at
 -- 2^64 - 1.
-pub record DescentUnder (fits : List ℕ → Type 0) (may : List ℕ → Offer → Bool) (by : Terms) (from to : Stand)
+pub record DescentUnder (fits : List ℕ → Type 0) (may : List ℕ → Offer → Bool) (by : DescentInput)
+    (from to : DescentState)
     (report : Report) : Type 0 where
-  pub run : (tests : ℕ) × RunUnder may by.distance (near_of by.near) by.or_segment from.tour from.awake to.tour []
+  pub run : (tests : ℕ) × ExecutionUnder may by.distance (near_of by.near) by.or_segment from.tour from.awake to.tour []
       report.looks report.moves tests × (to.tests ≡ saturated (from.tests + tests))
-  pub fresh : from.tests ≡ 0 → IsRunUnder may by.distance by.near by.or_segment from.tour from.awake to.tour [] report
+  pub fresh : from.tests ≡ 0 → IsExecutionUnder may by.distance by.near by.or_segment from.tour from.awake to.tour []
+      report
   pub wakes : WakesUnder fits by.distance (near_of by.near) by.or_segment from.tour from.awake to.tour []
   pub asleep : to.awake ≡ []
   pub tour : IsTour (length from.tour) to.tour
@@ -69,11 +71,12 @@ pub record DescentUnder (fits : List ℕ → Type 0) (may : List ℕ → Offer �
   pub reported : IsReported by from to (length from.awake) report
 
 -- a descent of the TSP
-abbrev pub Descent : Terms → Stand → Stand → Report → Type 0
+abbrev pub Descent : DescentInput → DescentState → DescentState → Report → Type 0
 Descent = DescentUnder each_cycle everything
 
 -- A swept descent ends with a local optimum that fits, and with no city awake.
-pub record SweepingUnder (fits : List ℕ → Type 0) (may : List ℕ → Offer → Bool) (by : Terms) (from to : Stand)
+pub record SweepingUnder (fits : List ℕ → Type 0) (may : List ℕ → Offer → Bool) (by : DescentInput)
+    (from to : DescentState)
     (report : SweptReport) : Type 0 where
   pub sweeps : (tests : ℕ) × SweepsUnder may by.distance (near_of by.near) by.or_segment from.tour to.tour report.passes
       report.descent.looks report.descent.moves tests × (to.tests ≡ saturated (from.tests + tests))
@@ -86,11 +89,11 @@ pub record SweepingUnder (fits : List ℕ → Type 0) (may : List ℕ → Offer 
   pub reported : IsReported by from to (length from.tour * report.passes) report.descent
 
 -- a swept descent of the TSP
-abbrev pub Sweeping : Terms → Stand → Stand → SweptReport → Type 0
+abbrev pub Sweeping : DescentInput → DescentState → DescentState → SweptReport → Type 0
 Sweeping = SweepingUnder each_cycle everything
 
 -- the state of a descent with this tour and these waking cities, after `tests` tests
-abbrev pub stand : {S : Type 0} → stores.Ghosts S → S → Awake → ℕ → Stand
+abbrev pub stand : {S : Type 0} → stores.Ghosts S → S → Awake → ℕ → DescentState
 stand store tour waking tests = record {
   tour = store.cities tour;
   awake = waking.queue;

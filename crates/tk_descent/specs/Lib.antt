@@ -6,6 +6,6 @@ pub mod Offers
 pub mod ProbeSteps
 pub mod Ruled
 pub mod Sharing
-pub mod Steps
+pub mod EdgeCache
 pub mod Sweeps
 pub mod WakeMachine

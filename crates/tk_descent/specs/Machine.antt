@@ -12,27 +12,29 @@ IsOfferOn m o C = (D : List ℕ) × Makes m o C D
 
 -- A run of a descent from the tour T and the queue W, with the numbers of looks, moves and tests so far. Each step
 -- looks at the first city of the queue. On a cycle C, the offer o is allowed if `may C o` is true.
-pub data RunUnder (may : List ℕ → Offer → Bool) (dist : ℕ → ℕ → ℕ) (near : ℕ → List ℕ) (m : ℕ) (T W : List ℕ) :
+pub data ExecutionUnder (may : List ℕ → Offer → Bool) (dist : ℕ → ℕ → ℕ) (near : ℕ → List ℕ) (m : ℕ) (T W : List ℕ) :
     List ℕ → List ℕ → ℕ → ℕ → ℕ → Type 0 where
-  start : RunUnder may dist near m T W T W 0 0 0
-  asleep : {C V : List ℕ} {x looks moves tests : ℕ} → RunUnder may dist near m T W C (x ∷ V) looks moves tests →
+  start : ExecutionUnder may dist near m T W T W 0 0 0
+  asleep : {C V : List ℕ} {x looks moves tests : ℕ} → ExecutionUnder may dist near m T W C (x ∷ V) looks moves tests →
       first_allowed dist (may C) (offers C m (near x) x) ≡ None →
-      RunUnder may dist near m T W C V (looks + 1) moves (tests + tests_until dist (may C) (offers C m (near x) x))
+      ExecutionUnder may dist near m T W C V (looks + 1) moves
+      (tests + tests_until dist (may C) (offers C m (near x) x))
   move : {C V D : List ℕ} {x looks moves tests : ℕ} {o : Offer} →
-      RunUnder may dist near m T W C (x ∷ V) looks moves tests →
+      ExecutionUnder may dist near m T W C (x ∷ V) looks moves tests →
       first_allowed dist (may C) (offers C m (near x) x) ≡ Some o → Makes m o C D →
-      RunUnder may dist near m T W D (woken_each V (ends o)) (looks + 1) (moves + 1)
+      ExecutionUnder may dist near m T W D (woken_each V (ends o)) (looks + 1) (moves + 1)
       (tests + tests_until dist (may C) (offers C m (near x) x))
 
 -- a run of the TSP: every offer is allowed
-abbrev pub Run : (ℕ → ℕ → ℕ) → (ℕ → List ℕ) → ℕ → List ℕ → List ℕ → List ℕ → List ℕ → ℕ → ℕ → ℕ → Type 0
-Run = RunUnder everything
+abbrev pub Execution : (ℕ → ℕ → ℕ) → (ℕ → List ℕ) → ℕ → List ℕ → List ℕ → List ℕ → List ℕ → ℕ → ℕ → ℕ → Type 0
+Execution = ExecutionUnder everything
 
 -- a run with the numbers of looks, moves and tests of a report
-abbrev pub IsRunUnder : (List ℕ → Offer → Bool) → (ℕ → ℕ → ℕ) → NearLists → ℕ → List ℕ → List ℕ → List ℕ → List ℕ →
+abbrev pub IsExecutionUnder : (List ℕ → Offer → Bool) → (ℕ → ℕ → ℕ) → NearLists → ℕ → List ℕ → List ℕ → List ℕ → List ℕ
+    →
     Report → Type 0
-IsRunUnder may dist near m T W C V report =
-    RunUnder may dist (near_of near) m T W C V report.looks report.moves report.tests
+IsExecutionUnder may dist near m T W C V report =
+    ExecutionUnder may dist (near_of near) m T W C V report.looks report.moves report.tests
 
-abbrev pub IsRun : (ℕ → ℕ → ℕ) → NearLists → ℕ → List ℕ → List ℕ → List ℕ → List ℕ → Report → Type 0
-IsRun = IsRunUnder everything
+abbrev pub IsExecution : (ℕ → ℕ → ℕ) → NearLists → ℕ → List ℕ → List ℕ → List ℕ → List ℕ → Report → Type 0
+IsExecution = IsExecutionUnder everything

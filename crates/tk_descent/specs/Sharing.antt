@@ -4,19 +4,19 @@ use Rattle.tk_distance.specs.Cities.{IsCity}
 use Rattle.tk_descent.specs.Offers.{or_offers, IsSegmentIn}
 use Rattle.tk_descent.specs.declared.offer.Offer.{Offer}
 use Rattle.tk_descent.specs.declared.offer.Segment.{Segment}
-use Rattle.tk_descent.specs.declared.looks.sharing.Beside.{Beside}
-use Rattle.tk_descent.specs.declared.looks.sharing.Piece.{Piece}
+use Rattle.tk_descent.specs.declared.looks.sharing.CityWithNeighbours.{CityWithNeighbours}
+use Rattle.tk_descent.specs.declared.looks.sharing.RemovedSegment.{RemovedSegment}
 
 -- one of n cities, with its neighbours and the distances to them
-abbrev pub IsBeside : ℕ → (ℕ → ℕ → ℕ) → Beside → Type 0
-IsBeside n dist b =
+abbrev pub IsCityWithNeighbours : ℕ → (ℕ → ℕ → ℕ) → CityWithNeighbours → Type 0
+IsCityWithNeighbours n dist b =
     IsCity n b.city × IsCity n b.after × IsCity n b.before × (b.to_after ≡ pos (dist b.city b.after))
     × (b.to_before ≡ pos (dist b.city b.before))
 
 -- a segment from x among n cities, with the length that the tour loses if it is removed: the edges at its ends minus
 -- the edge that closes the gap
-abbrev pub IsPiece : ℕ → (ℕ → ℕ → ℕ) → ℕ → Piece → Type 0
-IsPiece n dist x p =
+abbrev pub IsRemovedSegment : ℕ → (ℕ → ℕ → ℕ) → ℕ → RemovedSegment → Type 0
+IsRemovedSegment n dist x p =
     IsSegmentIn n p.segment × (p.freed ≡ pos (dist p.segment.before x + dist p.segment.last p.segment.after) -ℤ pos
     (dist p.segment.before p.segment.after))
 
@@ -29,9 +29,9 @@ abbrev pub or_margin : (ℕ → ℕ → ℕ) → ℕ → ℕ → Segment → ℕ
 or_margin dist x y s w =
     pos (dist s.before x + dist s.last s.after + dist y w) -ℤ pos (dist s.before s.after + dist x y)
 
-abbrev pub segment_of : Piece → Segment
+abbrev pub segment_of : RemovedSegment → Segment
 segment_of p = p.segment
 
 -- the Or-opt offers of a segment from x between y and each of its neighbours
-abbrev pub piece_offers : ℕ → Beside → Piece → List Offer
+abbrev pub piece_offers : ℕ → CityWithNeighbours → RemovedSegment → List Offer
 piece_offers x y p = or_offers x y.city y.after y.before p.segment

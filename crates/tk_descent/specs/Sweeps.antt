@@ -5,14 +5,15 @@ use Rattle.std.specs.Prelude.{◌≡◌, ℕ, ◌+◌, ◌≤◌, Bool, List, []
 use Rattle.tk_near.specs.Near.{NearLists, near_of}
 use Rattle.tk_tour.specs.Counters.{saturated}
 use Rattle.tk_descent.specs.Awake.{one_to}
-use Rattle.tk_descent.specs.Machine.{RunUnder}
+use Rattle.tk_descent.specs.Machine.{ExecutionUnder}
 use Rattle.tk_descent.specs.Offers.{everything}
 use Rattle.tk_descent.specs.declared.offer.Offer.{Offer}
 use Rattle.tk_descent.specs.declared.sweep.SweptReport.{SweptReport}
 
 -- a descent from a tour with all cities awake, with its numbers of looks, moves and tests
 abbrev pub PassUnder : (List ℕ → Offer → Bool) → (ℕ → ℕ → ℕ) → (ℕ → List ℕ) → ℕ → List ℕ → List ℕ → ℕ → ℕ → ℕ → Type 0
-PassUnder may dist near m T C looks moves tests = RunUnder may dist near m T (one_to (length T)) C [] looks moves tests
+PassUnder may dist near m T C looks moves tests = ExecutionUnder may dist near m T (one_to (length T)) C [] looks moves
+    tests
 
 -- passes one after another from the tour T, each with a move, and the numbers of passes, looks, moves and tests
 pub data MovingUnder (may : List ℕ → Offer → Bool) (dist : ℕ → ℕ → ℕ) (near : ℕ → List ℕ) (m : ℕ) (T : List ℕ) :

@@ -3,7 +3,7 @@ ghost use Rattle.std.specs.Prelude.{◌≡◌, ◌+◌, ◌*◌, ◌≤◌, leng
 ghost use Rattle.tk_near.specs.Near.{near_of};
 ghost use Rattle.tk_tour.specs.Tour.{IsSizedTour};
 ghost use Rattle.tk_distance.specs.Holding.{IsDistinct};
-ghost use Rattle.tk_descent.specs.Machine.{IsRun};
+ghost use Rattle.tk_descent.specs.Machine.{IsExecution};
 ghost use Rattle.tk_descent.specs.Offers.{gain, Makes, shortening};
 ghost use Rattle.tk_descent.specs.Sweeps.{AreSweeps};
 ghost use Rattle.tk_descent.specs.WakeMachine.{IsLocalOptimum, Wakes};
@@ -43,7 +43,7 @@ pub fn descents_are_wake_runs<M: Metric>(
     requires most { or_segment ≤ 3 }
     requires tour { IsSizedTour before.now }
     requires distinct { IsDistinct awake.now }
-    requires run { IsRun (M.distance metric.now) near.now or_segment
+    requires run { IsExecution (M.distance metric.now) near.now or_segment
         before.now awake.now after.now left.now report.now }
     ensures wakes { Wakes (M.distance metric.now) (near_of near.now) or_segment
         before.now awake.now after.now left.now }

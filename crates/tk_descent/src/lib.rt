@@ -3,6 +3,7 @@
 #![tactic(auto)]
 
 mod descent;
+mod edge_cache;
 mod gains;
 pub mod laws;
 mod looks;
@@ -12,11 +13,11 @@ mod on_tour;
 mod optimum;
 mod probe;
 mod rule;
-mod steps;
 mod sweep;
 mod waking;
 
 pub use descent::{Report, descend, descend_under};
+pub use edge_cache::EdgeCache;
 pub use gains::Gains;
 pub use looks::looking::look;
 pub use making::make;
@@ -24,6 +25,5 @@ pub use offer::{Found, Offer};
 pub use optimum::{is_local_optimum, is_local_optimum_under};
 pub use probe::Probe;
 pub use rule::{Everything, Rule};
-pub use steps::Steps;
 pub use sweep::{SweptReport, descend_swept, descend_swept_under};
 pub use waking::Waking;

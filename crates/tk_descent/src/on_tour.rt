@@ -2,10 +2,10 @@
 ghost use Rattle.std.specs.Prelude.{◌≡◌, ◌≤◌, All, length};
 ghost use Rattle.tk_problem.specs.declared.limits.TheConstants.{CITY_LIMIT};
 ghost use Rattle.tk_distance.specs.Cities.{IsCity};
-ghost use Rattle.tk_tour.specs.Around.{AreAround};
+ghost use Rattle.tk_tour.specs.Neighbourhood.{IsNeighbourhood};
 ghost use Rattle.tk_tour.specs.Tour.{next_city, prev_city};
 
-use tk_tour::{Around, TourStore};
+use tk_tour::{Neighbourhood, TourStore};
 
 /// The number of cities of the tour.
 #[inline]
@@ -38,22 +38,22 @@ pub(crate) fn prev<S: TourStore>(tour: &S, c: u32) -> u32
 
 /// The three cities after c, and the three before it.
 #[inline]
-pub(crate) fn around<S: TourStore>(tour: &S, c: u32) -> Around
+pub(crate) fn neighbourhood<S: TourStore>(tour: &S, c: u32) -> Neighbourhood
     requires city { IsCity (length (S.cities tour.now)) c }
-    ensures around { AreAround (S.cities tour.now) c result }
+    ensures neighbourhood { IsNeighbourhood (S.cities tour.now) c result }
     ensures after { All (IsCity (length (S.cities tour.now))) result.after }
     ensures before { All (IsCity (length (S.cities tour.now))) result.before }
 {
-    tour.around(c)
+    tour.neighbourhood(c)
 }
 
 /// The cities after and before c.
 #[inline]
-pub(crate) fn beside<S: TourStore>(tour: &S, c: u32) -> (u32, u32)
+pub(crate) fn neighbours<S: TourStore>(tour: &S, c: u32) -> (u32, u32)
     requires city { IsCity (length (S.cities tour.now)) c }
     ensures after { result.0 ≡ next_city (S.cities tour.now) c }
     ensures before { result.1 ≡ prev_city (S.cities tour.now) c }
     ensures cities { IsCity (length (S.cities tour.now)) result.0 × IsCity (length (S.cities tour.now)) result.1 }
 {
-    tour.beside(c)
+    tour.neighbours(c)
 }

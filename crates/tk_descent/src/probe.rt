@@ -1,14 +1,14 @@
 //! Gains from the distances of a metric.
 ghost use Rattle.std.specs.Prelude.{◌≡◌, ◌≤◌, ◌+◌, ◌-◌, ◌^◌, pos};
 ghost use Rattle.tk_descent.specs.Offers.{EndsIn};
-ghost use Rattle.tk_descent.specs.Steps.{AreTrueOf};
+ghost use Rattle.tk_descent.specs.EdgeCache.{AreTrueOf};
 ghost use Rattle.tk_descent.specs.declared.offer.Offer.TheVariants.{Two, Or};
 
+use crate::edge_cache::EdgeCache;
 use crate::gains::Gains;
 use crate::looks::looking::find_offer;
 use crate::offer::Found;
 use crate::rule::Rule;
-use crate::steps::Steps;
 use tk_distance::Metric;
 use tk_near::Near;
 use tk_tour::TourStore;
@@ -17,7 +17,7 @@ use tk_tour::TourStore;
 #[derive(Drop)]
 pub struct Probe<'a, M: Metric> {
     metric: &'a M,
-    steps: Steps,
+    steps: EdgeCache,
     count: u64,
     ghost true_steps: { AreTrueOf (M.distance metric.now) steps },
     ghost count_limit: { count ≤ 2 ^ 64 - 1 },
@@ -32,11 +32,11 @@ impl<'a, M: Metric> Probe<'a, M> {
         ensures table { ⟦<Probe<'a, M> as Gains>⟧.distance result ≡ M.distance metric.now }
         ensures count { ⟦<Probe<'a, M> as Gains>⟧.test_count result ≡ 0 }
     {
-        Probe::with_steps(metric, Steps::none())
+        Probe::with_cache(metric, EdgeCache::none())
     }
 
     /// Gains from the distances of the metric, with no tests so far. It reads and fills this cache of edge lengths.
-    pub fn with_steps(metric: &'a M, steps: Steps) -> Probe<'a, M>
+    pub fn with_cache(metric: &'a M, steps: EdgeCache) -> Probe<'a, M>
         requires { AreTrueOf (M.distance metric.now) steps }
         ensures size { ⟦<Probe<'a, M> as Gains>⟧.size_of result ≡ M.size_of metric.now }
         ensures table { ⟦<Probe<'a, M> as Gains>⟧.distance result ≡ M.distance metric.now }
@@ -51,7 +51,7 @@ impl<'a, M: Metric> Probe<'a, M> {
     }
 
     /// The cache of edge lengths.
-    pub fn into_steps(self) -> Steps
+    pub fn into_cache(self) -> EdgeCache
         ensures steps { result ≡ steps_of self.entry }
         ensures true_steps { AreTrueOf (⟦<Probe<'a, M> as Gains>⟧.distance self.entry) result }
     {

@@ -2,23 +2,23 @@
 //! Also how the other lines of a file are read.
 #![tactic(auto)]
 
+mod diagnosis;
+mod escaped;
 mod fault;
-mod here;
+mod line_context;
 mod nearest;
-mod place;
 mod remark;
 mod repeats;
+mod section_position;
 mod sentence;
-mod shown;
-mod spot;
 mod taken;
 mod wrapping;
 
+pub use diagnosis::diagnosis_at;
+pub use escaped::shown_line;
 pub use fault::FileFault;
-pub use here::here_at;
+pub use line_context::{Diagnosis, LineContext};
 pub use remark::Remark;
 pub use sentence::Sentence;
-pub use shown::shown_line;
-pub use spot::{Here, Spot};
-pub use taken::taken_for;
+pub use taken::interpretation_of;
 pub use wrapping::wrapped;

@@ -1,7 +1,8 @@
 //! Remarks on files without a fault that are probably not what their author means.
-use crate::place::{node_index, number_at};
+use crate::section_position::{node_index, number_at};
 use tk_kinds::{
-    Found, first_token, length_before, lines_of, natural, split_word, tokens_of, value_behind,
+    NumberedLine, first_token, length_before, lines_of, natural, split_word, tokens_of,
+    value_behind,
 };
 use tk_params::key_of;
 use tk_words::{Keyword, spelled};
@@ -52,7 +53,7 @@ impl Remark {
             let index = node_index(text, Keyword::TourSection, 0)?;
             return Some(number_at(text, Keyword::TourSection, index)?.line);
         }
-        for Found { line, bytes } in lines_of(text) {
+        for NumberedLine { line, bytes } in lines_of(text) {
             if self.is_about(bytes) {
                 return Some(line);
             }

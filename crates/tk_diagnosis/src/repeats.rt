@@ -1,7 +1,7 @@
 //! Nodes that a section names twice.
-use crate::place::entry_width;
+use crate::section_position::entry_width;
 use std::alloc::{AllocError, Global};
-use tk_kinds::{Found, keyword_at, lines_of, natural, tokens_of};
+use tk_kinds::{NumberedLine, keyword_at, lines_of, natural, tokens_of};
 use tk_words::Keyword;
 
 /// A repeated node, and the first line with it.
@@ -58,7 +58,7 @@ impl Named {
     /// Takes the lines of a section, up to a repeated node.
     fn take_section(&mut self, text: &[u8], section: Keyword) -> Option<Repeat> {
         let mut is_open = false;
-        for Found { line, bytes } in lines_of(text) {
+        for NumberedLine { line, bytes } in lines_of(text) {
             if let Some(word) = keyword_at(bytes) {
                 is_open = word == section;
             } else if is_open {

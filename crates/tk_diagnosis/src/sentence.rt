@@ -1,5 +1,5 @@
 //! Sentences about a file, with values from it.
-use crate::shown::shown_word;
+use crate::escaped::shown_word;
 use std::fmt;
 use tk_params::Key;
 use tk_words::Keyword;

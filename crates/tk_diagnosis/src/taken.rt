@@ -1,13 +1,13 @@
 //! How the lines of a file are read.
-use crate::place::{Place, entry_width, place_of};
+use crate::line_context::LineContext;
+use crate::section_position::{SectionPosition, entry_width, place_of};
 use crate::sentence::Sentence;
-use crate::spot::Spot;
-use tk_kinds::{Found, Kind, count_tokens, keyword_at, lines_of, split_word, value_behind};
+use tk_kinds::{Kind, NumberedLine, count_tokens, keyword_at, lines_of, split_word, value_behind};
 use tk_params::key_of;
 use tk_words::{Keyword, Role, spelled};
 
 /// A sentence on how a line is read.
-pub fn taken_for<'a>(spot: &Spot<'a>) -> Sentence<'a> {
+pub fn interpretation_of<'a>(spot: &LineContext<'a>) -> Sentence<'a> {
     if spot.line.trim_ascii().is_empty() {
         return Sentence::of("a blank line");
     }
@@ -25,8 +25,8 @@ pub fn taken_for<'a>(spot: &Spot<'a>) -> Sentence<'a> {
 }
 
 /// Whether an earlier line begins with `EOF`.
-fn is_after_end(spot: &Spot<'_>) -> bool {
-    for Found { line, bytes } in lines_of(spot.text) {
+fn is_after_end(spot: &LineContext<'_>) -> bool {
+    for NumberedLine { line, bytes } in lines_of(spot.text) {
         if line >= spot.number {
             return false;
         }
@@ -38,7 +38,7 @@ fn is_after_end(spot: &Spot<'_>) -> bool {
 }
 
 /// How a line of a problem or a tour is read.
-fn in_text<'a>(spot: &Spot<'a>) -> Sentence<'a> {
+fn in_text<'a>(spot: &LineContext<'a>) -> Sentence<'a> {
     let Some(word) = keyword_at(spot.line) else {
         return among_numbers(spot);
     };
@@ -54,7 +54,7 @@ fn in_text<'a>(spot: &Spot<'a>) -> Sentence<'a> {
 }
 
 /// How a line without a keyword is read.
-fn among_numbers<'a>(spot: &Spot<'_>) -> Sentence<'a> {
+fn among_numbers<'a>(spot: &LineContext<'_>) -> Sentence<'a> {
     let Some(place) = place_of(spot.text, spot.number) else {
         return Sentence::of("a line outside any section");
     };
@@ -62,7 +62,7 @@ fn among_numbers<'a>(spot: &Spot<'_>) -> Sentence<'a> {
 }
 
 /// The numbers of a section that are on a line.
-fn numbers_of<'a>(line: &[u8], place: Place) -> Sentence<'a> {
+fn numbers_of<'a>(line: &[u8], place: SectionPosition) -> Sentence<'a> {
     let section = place.section;
     let width = entry_width(section);
     let count = count_tokens(line);

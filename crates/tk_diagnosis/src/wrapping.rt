@@ -1,11 +1,11 @@
 //! Diagnoses of files that are not texts that tourkit can read, whatever their contents.
 
+use crate::line_context::Diagnosis;
 use crate::sentence::Sentence;
-use crate::spot::Here;
 use tk_kinds::{Foreign, Wrapping};
 
 /// The diagnosis of a file that is not a text that can be read.
-pub fn wrapped<'a>(wrapping: Wrapping) -> Here<'a> {
+pub fn wrapped<'a>(wrapping: Wrapping) -> Diagnosis<'a> {
     let (read, remedy) = match wrapping {
         Wrapping::Gzip => (
             "a file compressed by gzip",
@@ -25,11 +25,11 @@ pub fn wrapped<'a>(wrapping: Wrapping) -> Here<'a> {
         ),
         Wrapping::Foreign(foreign) => return foreign_here(foreign),
     };
-    Here::advised("a text in ASCII or UTF-8", Sentence::of(read), remedy)
+    Diagnosis::advised("a text in ASCII or UTF-8", Sentence::of(read), remedy)
 }
 
 /// The diagnosis of a file that another program wrote.
-fn foreign_here<'a>(foreign: Foreign) -> Here<'a> {
+fn foreign_here<'a>(foreign: Foreign) -> Diagnosis<'a> {
     let (read, remedy) = match foreign {
         Foreign::Csv => (
             "a CSV file: values separated by commas or semicolons",
@@ -61,7 +61,7 @@ fn foreign_here<'a>(foreign: Foreign) -> Here<'a> {
             examples/tri.tsp for coordinates and examples/five.tsp for distances.",
         ),
     };
-    Here::advised(
+    Diagnosis::advised(
         "a TSPLIB file, whose lines begin with keywords such as TYPE and DIMENSION",
         Sentence::of(read),
         remedy,

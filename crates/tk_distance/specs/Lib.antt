@@ -7,6 +7,6 @@ pub mod PlaneOf
 pub mod Roots
 pub mod Searching
 pub mod Tables
-pub mod Turned
+pub mod SwappedAxes
 pub mod Weights
 pub mod WholeCities

@@ -3,17 +3,17 @@ use Rattle.std.proofs.Common.{Err, refl, true}
 use Rattle.tk_problem_text.specs.Problem.{ProblemIs}
 use Rattle.tk_words.specs.declared.sources.source.Source as sources
 use Rattle.tk_writers.specs.declared.output.sink.Sink as sinks
-use Rattle.tk_picture.specs.declared.picture.Form.{Form}
+use Rattle.tk_picture.specs.declared.picture.OutputFormat.{OutputFormat}
 use Rattle.tk_engines.specs.Engine.{AtWrite, HasRead, Stopped}
 use Rattle.tk_engines.specs.Plot.{PlotsClaim, ReadsClaim, WritesOutput, plot_task}
 use Rattle.tk_engines.specs.declared.fault.Fault.{Fault}
 use Rattle.tk_engines.specs.declared.fault.Fault.TheVariants as faults
 
 -- before anything was written
-pub unwritten : {C W T : Type 0} {claims : sources.Ghosts C} {outs : sinks.Ghosts W} {tolds : sinks.Ghosts T}
-    {form : Form} {problem : ProblemIs} {claim claim' : C} {out : W} {told : T} (f : Fault) → AtWrite ⊥ f
+pub unwritten : {C W T : Type 0} {claims : sources.Ghosts C} {outs : sinks.Ghosts W} {reports : sinks.Ghosts T}
+    {form : OutputFormat} {problem : ProblemIs} {claim claim' : C} {out : W} {reported : T} (f : Fault) → AtWrite ⊥ f
     → Stopped (plot_task form true) (HasRead problem) (ReadsClaim true claims claim claim')
-    (WritesOutput outs tolds out out told told) f
-    → PlotsClaim claims outs tolds form problem (claim, out, told) (claim', out, told) (Err f)
+    (WritesOutput outs reports out out reported reported) f
+    → PlotsClaim claims outs reports form problem (claim, out, reported) (claim', out, reported) (Err f)
 unwritten (faults.Write f) never ends = elim never [ ]
 unwritten _ never ends = record { ends = ends; quiet = ((refl, refl), (refl, refl)); failed = tt }

@@ -1,13 +1,13 @@
 pub mod BetweenEnds
 pub mod ClaimsPlotted
-pub mod Ends
+pub mod EngineEnds
 pub mod FilesWritten
-pub mod Lengths
+pub mod TourLengths
 pub mod PrintedLines
 pub mod ProblemTables
 pub mod ReadTables
 pub mod RouteChecks
-pub mod Shown
+pub mod DrawnOutcomes
 pub mod SolveEnds
 pub mod StartChecks
 pub mod TextsRead

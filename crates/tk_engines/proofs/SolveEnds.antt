@@ -1,9 +1,8 @@
 -- How a search ends, by how its parts end.
-use Rattle.std.proofs.Common.{◌≡◌, List, ℕ, Option, None, Result, Ok, Err, IfOk, ap, refl, subst, sym}
-use Rattle.std.specs.Prelude.{IfErr, option_map}
-use Rattle.std.specs.Result.{IsErrAnd}
+use Rattle.std.proofs.Common.{◌≡◌, List, ℕ, Option, None, Result, Ok, Err, IfOk, ap, refl, subst}
+use Rattle.std.specs.Prelude.{IfErr, OnOk, option_map}
 use Rattle.tk_problem_text.specs.Problem.{ProblemIs}
-use Rattle.tk_params.specs.Asked.{ParamsAre}
+use Rattle.tk_params.specs.Requested.{ParamsAre, SearchIs}
 use Rattle.tk_solve.specs.Events.{Event}
 use Rattle.tk_solve.specs.SolvedTours.{IsSolved}
 use Rattle.tk_solve.specs.Starts.{TourTask}
@@ -21,41 +20,29 @@ module _ (p : ParamsAre) (Watched : List Event → Type 0) (problem : ProblemIs)
   read : AreRead (search_task p Watched) (HasRead problem) (HasRead initial) problem initial
   read = record { is_problem = refl; fits = ap (option_map NotForType) fits; is_second = refl }
 
-  -- the initial tour was refused
-  initial_stopped : (f : Fault) → IsInitialRefused problem initial f →
+  -- the initial tour was refused, or memory ran out
+  stopped : (f : Fault) → IsInitialRefused problem initial f →
       Ends (search_task p Watched) (HasRead problem) (HasRead initial) WritesNothing (Err f)
-  initial_stopped (faults.Initial f) h = (problem, initial, read, h)
-  initial_stopped faults.NoMemory h = (problem, initial, read, refl)
-  initial_stopped _ h = elim h [ ]
+  stopped (faults.Initial f) h = (problem, initial, read, h)
+  stopped faults.NoMemory h = (problem, initial, read, refl)
+  stopped _ h = elim h [ ]
 
-  -- and the fault was passed on
-  pub initial_failed : (f : Fault) (r : Result SearchOutcome Fault) → IsErrAnd r (λ e. e ≡ f) →
-      IsInitialRefused problem initial f →
+  -- the search was made, or stopped
+  pub searched_ends : (s : SearchIs) → s ≡ p.search → (r : Result SearchOutcome Fault) →
+      OnOk r (IsInitial problem initial None) → IfOk r (IsFound s Watched problem initial) →
+      IfErr r (IsInitialRefused problem initial) →
       Ends (search_task p Watched) (HasRead problem) (HasRead initial) WritesNothing r
-  initial_failed f (Err e) is h =
-      subst (λ v. Ends (search_task p Watched) (HasRead problem) (HasRead initial) WritesNothing (Err v)) (sym is)
-      (initial_stopped f h)
-  initial_failed f (Ok v) is h = elim is [ ]
-
-  -- memory ran out
-  pub memory_ended :
-      Ends (search_task p Watched) (HasRead problem) (HasRead initial) WritesNothing (Err faults.NoMemory)
-  memory_ended = (problem, initial, read, refl)
-
-  -- the search was made
-  pub found_ends : (outcome : SearchOutcome) → IsInitial problem initial None →
-      IsFound p Watched problem initial outcome →
-      Ends (search_task p Watched) (HasRead problem) (HasRead initial) WritesNothing (Ok outcome)
-  found_ends outcome together found =
+  searched_ends s is (Ok outcome) together found refused =
       record {
         problem = problem;
         second = initial;
         text = tt;
         read = read;
         together = together;
-        gives = found;
+        gives = subst (λ (t : SearchIs). IsFound t Watched problem initial outcome) is found;
         written = tt;
       }
+  searched_ends s is (Err f) together found refused = stopped f refused
 
 -- an observer was shown nothing
 unwatched_at : (P : Type 0) → P → (f : Fault) → BeforeSearch P f

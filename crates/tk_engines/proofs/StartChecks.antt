@@ -3,8 +3,8 @@ use Rattle.std.proofs.Common.{◌≡◌, None}
 use Rattle.tk_lists.specs.Solution.{Solution}
 use Rattle.tk_routes.specs.Instance.{Instance}
 use Rattle.tk_routes.specs.RouteVerdicts.{IsRouteVerdict}
-use Rattle.tk_routes.specs.declared.claims.verdict.RouteVerdict.{RouteVerdict}
-use Rattle.tk_routes.specs.declared.claims.verdict.RouteVerdict.TheVariants.{Valid}
+use Rattle.tk_routes.specs.declared.checking.verdict.RouteVerdict.{RouteVerdict}
+use Rattle.tk_routes.specs.declared.checking.verdict.RouteVerdict.TheVariants.{Valid}
 use Rattle.tk_engines.specs.Between.{AreGivenRoutes, route_fault}
 
 -- routes without a fault are valid

@@ -12,9 +12,9 @@ use Rattle.tk_writers.specs.declared.output.sink.Sink as sinks
 use Rattle.tk_routes.specs.Instance.{Instance}
 use Rattle.tk_routes.specs.RouteVerdicts.{IsRouteVerdict, filled_of}
 use Rattle.tk_routes.specs.Routes.{AreRoutes}
-use Rattle.tk_routes.specs.declared.claims.verdict.RouteVerdict.{RouteVerdict}
-use Rattle.tk_routes.specs.declared.claims.verdict.RouteVerdict.TheVariants.{Valid, BadCustomer, ServedTwice}
-use Rattle.tk_routes.specs.declared.claims.verdict.RouteVerdict.TheVariants.{OverCapacity, NotServed, WrongCost}
+use Rattle.tk_routes.specs.declared.checking.verdict.RouteVerdict.{RouteVerdict}
+use Rattle.tk_routes.specs.declared.checking.verdict.RouteVerdict.TheVariants.{Valid, BadCustomer, ServedTwice}
+use Rattle.tk_routes.specs.declared.checking.verdict.RouteVerdict.TheVariants.{OverCapacity, NotServed, WrongCost}
 use Rattle.tk_route_search.specs.Events.{Event, Begun}
 use Rattle.tk_route_search.specs.SolvedRoutes.{AreSolved, AreSound}
 use Rattle.tk_route_search.specs.Tasks.{Begins, AtLadder, At, RouteTask}

@@ -10,7 +10,8 @@
 --     EndsByProblem      like Ends, but the problem decides how the second text is read
 --     BeforeSecond, UnlessWrite, AtWrite      a fact that is true at some of the stages
 use Rattle.std.specs.Prelude.{◌≡◌, ◌≢◌, ℕ, Bool, true, List, Option, Some, None, Result, Ok, Err}
-use Rattle.tk_words.specs.Texts.{Texts, OfSource, IsAnswerWhereTold, IsFaultWhereTold, IsOfSomeText, IsFaultOfSomeText}
+use Rattle.tk_words.specs.Texts.{Texts, OfSource, IsAnswerIfSpecified, IsFaultIfSpecified, IsOfSomeText}
+use Rattle.tk_words.specs.Texts.{IsFaultOfSomeText}
 use Rattle.tk_problem_text.specs.Problem.{ProblemIs, problem_texts}
 use Rattle.tk_lists.specs.Solution.{Solution, solution_texts}
 use Rattle.tk_lists.specs.Tour.{tour_texts}
@@ -26,14 +27,14 @@ use Rattle.tk_engines.specs.declared.fault.Fault.TheVariants as faults
 -- the text of a source contains this value, and no read failed
 pub record IsRead {V S : Type 0} (texts : Texts V TextFault) (source : sources.Ghosts S) (old new : S) (value : V) :
     Type 0 where
-  pub answer : IsAnswerWhereTold texts (source.left old) (source.left new) (Ok value)
+  pub answer : IsAnswerIfSpecified texts (source.left old) (source.left new) (Ok value)
   pub some_text : IsOfSomeText texts (Ok value)
   pub intact : source.broken new ≡ source.broken old
 
 -- the text of a source has this fault, or reading it failed, or memory ran out
 pub record IsRefused {V S : Type 0} (texts : Texts V TextFault) (source : sources.Ghosts S) (old new : S)
     (f : TextFault) : Type 0 where
-  pub fault : IsFaultWhereTold texts (source.broken new) (source.left old) (source.left new) f
+  pub fault : IsFaultIfSpecified texts (source.broken new) (source.left old) (source.left new) f
   pub some_fault : IsFaultOfSomeText texts f
   pub intact : texts.cause f ≢ OfSource → source.broken new ≡ source.broken old
 

@@ -10,7 +10,7 @@ use Rattle.tk_problem.specs.Places.{scale}
 use Rattle.tk_problem.specs.declared.point.Point.{Point}
 use Rattle.tk_problem_text.specs.Problem.{ProblemIs, RoutingIs, WeightsAre}
 use Rattle.tk_problem_text.specs.Problem as value
-use Rattle.tk_picture.specs.Frames.{IsLowest, IsHighest}
+use Rattle.tk_picture.specs.Extents.{IsLowest, IsHighest}
 use Rattle.tk_words.specs.declared.sources.source.Source as sources
 use Rattle.tk_writers.specs.Puts.{Writes}
 use Rattle.tk_writers.specs.declared.output.sink.Sink as sinks
@@ -37,7 +37,7 @@ pub record IsArea (points : List Point) (area : Area) : Type 0 where
 
 -- how the distances are given
 abbrev pub AreDistances : WeightsAre → DistanceInfo → Type 0
-AreDistances (value.Points kind points) (Plane told area) = (told ≡ kind) × IsArea points area
+AreDistances (value.Points kind points) (Plane reported area) = (reported ≡ kind) × IsArea points area
 AreDistances (value.Lower weights) Explicit = Unit {0}
 AreDistances _ _ = ⊥
 

@@ -6,7 +6,8 @@ pub mod Lines
 pub mod MatrixOf
 pub mod NearText
 pub mod Plot
-pub use Rattle.tk_params.specs.Asked
+pub use Rattle.tk_params.specs.Requested
+pub use Rattle.tk_params.specs.SearchOf
 pub use Rattle.tk_params.specs.Keys
 pub use Rattle.tk_params.specs.Entries
 pub use Rattle.tk_params.specs.Params

@@ -20,7 +20,7 @@ use Rattle.tk_tour.specs.Verdict.{IsVerdict}
 use Rattle.tk_tour.specs.declared.fault.TourFault.TheVariants as tours
 use Rattle.tk_tour.specs.declared.verdict.Verdict.{Verdict}
 use Rattle.tk_tour.specs.declared.verdict.Verdict.TheVariants.{Tour, WrongCount, OutOfRange, RepeatedCity}
-use Rattle.tk_params.specs.Asked.{ParamsAre}
+use Rattle.tk_params.specs.Requested.{ParamsAre, SearchIs}
 use Rattle.tk_params.specs.declared.key.Key.{Key}
 use Rattle.tk_params.specs.declared.key.Key.TheVariants as keys
 use Rattle.tk_params.specs.declared.value.Construction.{Construction}
@@ -90,45 +90,45 @@ construction_begins Nearest = AtNearest
 construction_begins Savings = AtSavings
 
 -- the start of each run: the tour that was read, or a constructed one
-abbrev pub begins_with : ParamsAre → Option (List ℕ) → Begins
-begins_with p None = construction_begins p.construction
-begins_with p (Some cities) = At cities
+abbrev pub begins_with : SearchIs → Option (List ℕ) → Begins
+begins_with s None = construction_begins s.construction
+begins_with s (Some cities) = At cities
 
 -- the search for a tour of the problem's cities
-abbrev pub tour_task : ParamsAre → ProblemIs → Option (List ℕ) → TourTask
-tour_task p problem initial =
+abbrev pub tour_task : SearchIs → ProblemIs → Option (List ℕ) → TourTask
+tour_task s problem initial =
     record {
       size = problem.n;
       distance = read_distance problem.weights;
-      start = begins_with p initial;
-      runs = p.runs;
-      trials = unwrap_or p.max_trials problem.n;
-      seed = p.seed;
-      candidates = p.max_candidates;
-      rules = record { sweep = p.final_sweep; or_segment = p.or_segment };
+      start = begins_with s initial;
+      runs = s.runs;
+      trials = unwrap_or s.max_trials problem.n;
+      seed = s.seed;
+      candidates = s.max_candidates;
+      rules = record { sweep = s.final_sweep; or_segment = s.or_segment };
     }
 
 -- ---- the outcome
 
 -- for a TSP: the best tour of the runs, with its length, and a report of each run; the name of the problem, followed by
 -- the events of the runs, satisfies Watched
-pub record IsTourFound (p : ParamsAre) (Watched : List Event → Type 0) (problem : ProblemIs)
+pub record IsTourFound (s : SearchIs) (Watched : List Event → Type 0) (problem : ProblemIs)
     (initial : Option (List ℕ)) (found : FoundTour) : Type 0 where
   pub name : found.name.items ≡ problem.name
-  pub is : IsSolved (tour_task p problem initial) (λ shown. Watched (Begun problem.name ∷ shown)) found.solved
-  pub sound : IsSound (tour_task p problem initial) found.solved
+  pub is : IsSolved (tour_task s problem initial) (λ shown. Watched (Begun problem.name ∷ shown)) found.solved
+  pub sound : IsSound (tour_task s problem initial) found.solved
 
 -- for a CVRP: the improved routes, with their cost, and the report of the improvement
-abbrev pub AreRoutesFound : ParamsAre → Instance → FoundRoutes → Type 0
-AreRoutesFound p i found = AreSolved i p.max_candidates p.or_segment (lists_of found.routes.items) found.report
+abbrev pub AreRoutesFound : SearchIs → Instance → FoundRoutes → Type 0
+AreRoutesFound s i found = AreSolved i s.max_candidates s.or_segment (lists_of found.routes.items) found.report
 
 -- an observer is shown a search for a tour, but nothing of a search for routes
-abbrev pub IsFound : ParamsAre → (List Event → Type 0) → ProblemIs → Option (List ℕ) → SearchOutcome → Type 0
-IsFound p Watched problem initial (Found found) =
-    (problem.routing ≡ None) × IsTourFound p Watched problem initial found
-IsFound p Watched problem initial (Routes found) =
-    IsSomeAnd problem.routing (λ r. AreRoutesFound p (instance_in problem r) found) × Watched []
-IsFound p Watched problem initial (Between found) = ⊥
+abbrev pub IsFound : SearchIs → (List Event → Type 0) → ProblemIs → Option (List ℕ) → SearchOutcome → Type 0
+IsFound s Watched problem initial (Found found) =
+    (problem.routing ≡ None) × IsTourFound s Watched problem initial found
+IsFound s Watched problem initial (Routes found) =
+    IsSomeAnd problem.routing (λ r. AreRoutesFound s (instance_in problem r) found) × Watched []
+IsFound s Watched problem initial (Between found) = ⊥
 
 -- the task of a search with these parameters, whose events satisfy Watched
 abbrev pub search_task : ParamsAre → (List Event → Type 0) → Task (Option (List ℕ)) SearchOutcome (Unit {0})
@@ -136,7 +136,7 @@ search_task p Watched = record {
   misfit = λ problem. option_map NotForType (unfit_key p problem);
   IsClash = IsInitial;
   takes_memory = true;
-  Gives = λ problem initial outcome _. IsFound p Watched problem initial outcome;
+  Gives = λ problem initial outcome _. IsFound p.search Watched problem initial outcome;
 }
 
 -- how a search ends without output, given its two sources and the observer before and after it

@@ -1,7 +1,7 @@
 //! The options of a search between the routes of a CVRP.
 ghost use Rattle.std.specs.Prelude.{◌≤◌, IfSome};
 ghost use Rattle.std.proofs.Props.{props};
-ghost use Rattle.tk_params.specs.Asked.{IsInLimits};
+ghost use Rattle.tk_params.specs.Requested.{IsInLimits};
 ghost use Rattle.tk_problem.specs.declared.limits.TheConstants.{CANDIDATE_LIMIT};
 
 /// The options of a search between the routes of a CVRP.

@@ -37,11 +37,12 @@ pub use outcomes::search::{FoundBetween, FoundRoutes, FoundTour, SearchOutcome};
 pub use outcomes::tour::TourOutcome;
 pub use route_fault::RouteFault;
 pub use tk_params::{
-    Construction, Key, ParamFault, ParamKind, Params, ParamsBuilder, decided_params_stay,
-    each_params_text_has_an_answer, each_word_spells_its_key, key_of, read_params,
+    Construction, Key, ParamFault, ParamKind, Params, SearchBuilder, SearchSettings,
+    decided_params_stay, each_params_text_has_an_answer, each_word_spells_its_key, key_of,
+    read_params,
 };
-pub use tk_picture::{Form, Parts};
+pub use tk_picture::{OutputFormat, Parts};
 pub use tk_route_search::{RouteProgress, RouteRun, RouteWatch};
 pub use tk_routes::RouteVerdict;
-pub use tk_solve::{Progress, RunReport, Unwatched, Watch};
+pub use tk_solve::{NoObserver, Progress, RunReport, Watch};
 pub use tk_tour::{TourFault, Verdict};

@@ -8,7 +8,7 @@ use Rattle.tk_params.specs.declared.fault.ParamKind.TheVariants as kinds
 use Rattle.tk_params.specs.declared.key.Key.{Key}
 use Rattle.tk_params.specs.declared.key.Key.TheVariants as keys
 use Rattle.tk_params.specs.declared.value.Construction.TheVariants.{Nearest, Savings}
-use Rattle.tk_engines.specs.Asked.{ParamsAre}
+use Rattle.tk_engines.specs.Requested.{ParamsAre, SearchIs}
 use Rattle.tk_engines.specs.Params.{Answer, params_decided, params_texts}
 
 -- a function returns the value that the table has next to each of its arguments
@@ -40,6 +40,19 @@ fault line kind = Some (Err (record { line = line; kind = kind }))
 abbrev pub undecided : TextAnswer
 undecided = None
 
+-- the search of a text without its keys
+abbrev pub by_default : SearchIs
+by_default =
+    record {
+      runs = 10;
+      max_trials = None;
+      seed = 1;
+      max_candidates = 5;
+      construction = Nearest;
+      final_sweep = false;
+      or_segment = 3;
+    }
+
 -- the parameters of a text that names only the problem file
 abbrev pub only : List ℕ → ParamsAre
 only problem =
@@ -48,13 +61,7 @@ only problem =
       tour_file = None;
       solution_file = None;
       initial_tour_file = None;
-      runs = 10;
-      max_trials = None;
-      seed = 1;
-      max_candidates = 5;
-      construction = Nearest;
-      final_sweep = false;
-      or_segment = 3;
+      search = by_default;
       ignored = [];
     }
 
@@ -64,6 +71,10 @@ after_p text = codes "PROBLEM_FILE = p\n" ++ text
 
 abbrev pub p : ParamsAre
 p = only (codes "p")
+
+-- the parameters of a text that names the problem file p and specifies this search
+abbrev pub searches : SearchIs → TextAnswer
+searches s = asks (record p { search = s })
 
 abbrev pub key_words : List (List ℕ × Option Key)
 key_words =
@@ -113,22 +124,22 @@ accepted =
     ∷ (codes "PROBLEM_FILE # p\n", asks (only (codes "# p")))
     ∷ (codes "PROBLEM_FILE = " ++ 195 ∷ 169 ∷ [], asks (only (195 ∷ 169 ∷ [])))
     -- the minimum and the maximum of each key
-    ∷ (after_p (codes "RUNS = 1"), asks (record p { runs = 1 }))
-    ∷ (after_p (codes "RUNS = 10000\n"), asks (record p { runs = 10000 }))
-    ∷ (after_p (codes "MAX_TRIALS = 1\n"), asks (record p { max_trials = Some 1 }))
-    ∷ (after_p (codes "max_trials 1000000"), asks (record p { max_trials = Some 1000000 }))
-    ∷ (after_p (codes "SEED = 0\n"), asks (record p { seed = 0 }))
-    ∷ (after_p (codes "SEED=+4294967295\n"), asks (record p { seed = 4294967295 }))
-    ∷ (after_p (codes "MAX_CANDIDATES = 1\n"), asks (record p { max_candidates = 1 }))
-    ∷ (after_p (codes "MAX_CANDIDATES = 100\n"), asks (record p { max_candidates = 100 }))
-    ∷ (after_p (codes "OR_SEGMENT = 1\n"), asks (record p { or_segment = 1 }))
-    ∷ (after_p (codes "OR_SEGMENT\t2\n"), asks (record p { or_segment = 2 }))
+    ∷ (after_p (codes "RUNS = 1"), searches (record by_default { runs = 1 }))
+    ∷ (after_p (codes "RUNS = 10000\n"), searches (record by_default { runs = 10000 }))
+    ∷ (after_p (codes "MAX_TRIALS = 1\n"), searches (record by_default { max_trials = Some 1 }))
+    ∷ (after_p (codes "max_trials 1000000"), searches (record by_default { max_trials = Some 1000000 }))
+    ∷ (after_p (codes "SEED = 0\n"), searches (record by_default { seed = 0 }))
+    ∷ (after_p (codes "SEED=+4294967295\n"), searches (record by_default { seed = 4294967295 }))
+    ∷ (after_p (codes "MAX_CANDIDATES = 1\n"), searches (record by_default { max_candidates = 1 }))
+    ∷ (after_p (codes "MAX_CANDIDATES = 100\n"), searches (record by_default { max_candidates = 100 }))
+    ∷ (after_p (codes "OR_SEGMENT = 1\n"), searches (record by_default { or_segment = 1 }))
+    ∷ (after_p (codes "OR_SEGMENT\t2\n"), searches (record by_default { or_segment = 2 }))
     ∷ (after_p (codes "OR_SEGMENT = 3\n"), asks p)
-    ∷ (after_p (codes "RUNS = 003\nSEED = -0\n"), asks (record p { runs = 3; seed = 0 }))
+    ∷ (after_p (codes "RUNS = 003\nSEED = -0\n"), searches (record by_default { runs = 3; seed = 0 }))
     ∷ (after_p (codes "CONSTRUCTION = NEAREST\nFINAL_SWEEP = NO\n"), asks p)
     ∷ (
       after_p (codes "CONSTRUCTION= savings\r\nfinal_sweep = Yes"),
-      asks (record p { construction = Savings; final_sweep = true }),
+      searches (record by_default { construction = Savings; final_sweep = true }),
     )
     ∷ (
       after_p (codes "TOUR_FILE = t\nSOLUTION_FILE = s\nINITIAL_TOUR_FILE = i\n"),
@@ -144,7 +155,7 @@ accepted =
     -- keys that are not used, in their order; their values do not matter
     ∷ (
       codes "# c\nMOVE_TYPE = 5\nPROBLEM_FILE = p\nRUNS = 1\n",
-      asks (record p { runs = 1; ignored = keys.MoveType ∷ [] }),
+      asks (record p { search = record by_default { runs = 1 }; ignored = keys.MoveType ∷ [] }),
     )
     ∷ (
       codes
@@ -273,7 +284,7 @@ prefixes =
     ∷ (codes "# c\nMOVE_TYPE = 5\nPROBLEM_FILE = p.tsp\nRUNS = ", fault 4 kinds.BadValue)
     ∷ (
       codes "# c\nMOVE_TYPE = 5\nPROBLEM_FILE = p.tsp\nRUNS = 1",
-      asks (record (only (codes "p.tsp")) { runs = 1; ignored = keys.MoveType ∷ [] }),
+      asks (record (only (codes "p.tsp")) { search = record by_default { runs = 1 }; ignored = keys.MoveType ∷ [] }),
     )
     ∷ []
 

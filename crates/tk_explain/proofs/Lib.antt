@@ -1,3 +1,3 @@
-pub mod Anys
+pub mod AnyItem
 pub mod Lengths
-pub mod Lookups
+pub mod TableLookups

@@ -10,8 +10,8 @@ use Rattle.tk_params.specs.declared.fault.ParamFault.{ParamFault}
 use Rattle.tk_params.specs.Params.{params_answer}
 use Rattle.tk_words.specs.declared.fault.TextKind.TheVariants as text
 use Rattle.tk_params.specs.declared.fault.ParamKind.TheVariants as params
-use Rattle.tk_explain.specs.declared.answer.Answer.{Answer}
-use Rattle.tk_explain.specs.declared.answer.Answer.TheVariants as answers
+use Rattle.tk_explain.specs.declared.read_result.ReadResult.{ReadResult}
+use Rattle.tk_explain.specs.declared.read_result.ReadResult.TheVariants as answers
 use Rattle.tk_kinds.specs.declared.kind.Kind.{Kind}
 use Rattle.tk_kinds.specs.declared.kind.Kind.TheVariants as kinds
 use Rattle.tk_diagnosis.specs.declared.fault.FileFault.{FileFault}
@@ -28,9 +28,9 @@ param_fault (Ok v) = None
 param_fault (Err f) = Some (faults.Parameters f)
 
 -- the fault that an answer reports
-abbrev pub fault_in : Answer → Option FileFault
-fault_in (answers.Sound sound) = None
-fault_in (answers.Faulty fault) = Some fault
+abbrev pub fault_in : ReadResult → Option FileFault
+fault_in (answers.Valid sound) = None
+fault_in (answers.Invalid fault) = Some fault
 
 -- the fault that a text has as a file of this kind
 abbrev pub fault_of : Kind → List ℕ → Option FileFault

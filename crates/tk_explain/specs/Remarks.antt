@@ -3,11 +3,11 @@ use Rattle.std.specs.Prelude.{ℕ, ◌-◌, Bool, false, ◌&&◌, ◌||◌, ◌
 use Rattle.std.specs.Prelude.{Option, Some, None, Vec, slice_index_or, if◌then◌else◌}
 use Rattle.std.specs.declared.alloc.Global.{Global}
 use Rattle.std.specs.List.{list_any}
-use Rattle.tk_params.specs.Asked.{ParamsAre}
+use Rattle.tk_params.specs.Requested.{ParamsAre}
 use Rattle.tk_diagnosis.specs.declared.remark.Remark.{Remark}
 use Rattle.tk_diagnosis.specs.declared.remark.Remark.TheVariants as remarks
-use Rattle.tk_explain.specs.declared.sound.Sound.{Sound}
-use Rattle.tk_explain.specs.declared.sound.Sound.TheVariants as contents
+use Rattle.tk_explain.specs.declared.valid.Valid.{Valid}
+use Rattle.tk_explain.specs.declared.valid.Valid.TheVariants as contents
 
 abbrev pub contains_zero : List ℕ → Bool
 contains_zero numbers = list_any (λ n. n == 0) numbers
@@ -47,7 +47,7 @@ on_names params =
     if has_colon (Some params.problem_file) || has_colon params.tour_file || has_colon params.solution_file
     || has_colon params.initial_tour_file then Some remarks.Colon else None
 
-abbrev pub remark_on : Sound → Option Remark
+abbrev pub remark_on : Valid → Option Remark
 remark_on (contents.Problem problem) = None
 remark_on (contents.Tour tour) = on_cities tour.cities.items
 remark_on (contents.Solution solution) = on_routes solution.routes.items

@@ -3,9 +3,9 @@ ghost use Rattle.std.specs.Prelude.{◌≡◌, ◌<◌, IfOk};
 ghost use Rattle.std.specs.String.{string_len};
 ghost use Rattle.tk_explain.specs.Answers.{fault_in, fault_of};
 
-use crate::answer::{Answer, answer_to};
 use crate::one_line::add_for_line;
 use crate::page::Page;
+use crate::read_result::{ReadResult, answer_to};
 use crate::whole_file::{File, add_answer};
 use std::alloc::{AllocError, Global};
 use tk_diagnosis::FileFault;
@@ -56,7 +56,7 @@ fn page_of(file: &File<'_>, line: Option<u64>) -> Result<FilePage, AllocError>
 /// Like `page_of`, given the answer of the reader of the file.
 fn page_of_answer(
     file: &File<'_>,
-    answer: &Answer,
+    answer: &ReadResult,
     line: Option<u64>,
 ) -> Result<FilePage, AllocError>
     ensures kind { IfOk result (λ page. page.kind ≡ file.now.kind) }
@@ -72,7 +72,7 @@ fn page_of_answer(
 }
 
 /// The text of the explanation of a file, or of one of its lines.
-fn text_of(file: &File<'_>, answer: &Answer, line: Option<u64>) -> Result<String, AllocError>
+fn text_of(file: &File<'_>, answer: &ReadResult, line: Option<u64>) -> Result<String, AllocError>
     ensures { IfOk result (λ text. 0 < string_len text) }
 {
     let mut page = Page::new(file.alloc);

@@ -1,18 +1,18 @@
 //! Explanations: of faults, of files with their first fault, and of lines.
 #![tactic(auto)]
 
-mod answer;
 mod by_word;
 mod fault_table;
 mod file_pages;
 mod one_line;
 mod page;
+mod read_result;
 mod remark;
-mod sound;
 mod unread;
+mod valid;
 mod whole;
 mod whole_file;
 
 pub use by_word::{fault_page, is_number};
 pub use file_pages::{FilePage, file_page, line_page};
-pub use unread::unread_fault;
+pub use unread::read_failure;

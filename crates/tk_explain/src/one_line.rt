@@ -1,9 +1,9 @@
 //! The explanation of a line: the first fault of the file, if it is on this line; otherwise how the line is read.
-use crate::answer::{Answer, answer_to};
 use crate::page::Page;
+use crate::read_result::{ReadResult, answer_to};
 use crate::whole_file::{File, Numbered, add_answer, add_sound};
 use std::alloc::AllocError;
-use tk_diagnosis::{FileFault, Spot, taken_for};
+use tk_diagnosis::{FileFault, LineContext, interpretation_of};
 use tk_kinds::{Kind, last_line};
 
 /// Adds the explanation of a line.
@@ -13,7 +13,7 @@ use tk_kinds::{Kind, last_line};
 pub fn add_for_line(
     page: &mut Page,
     file: &File<'_>,
-    answer: &Answer,
+    answer: &ReadResult,
     number: u64,
 ) -> Result<(), AllocError> {
     if is_faulty_at(answer, number) {
@@ -25,21 +25,21 @@ pub fn add_for_line(
 }
 
 /// Whether an answer is a fault on this line.
-fn is_faulty_at(answer: &Answer, line: u64) -> bool {
+fn is_faulty_at(answer: &ReadResult, line: u64) -> bool {
     match answer {
-        Answer::Faulty(fault) => fault.line() == line,
-        Answer::Sound(_) => false,
+        ReadResult::Invalid(fault) => fault.line() == line,
+        ReadResult::Valid(_) => false,
     }
 }
 
 /// Adds the summary of a whole file, in one or two lines.
-fn add_whole(page: &mut Page, file: &File<'_>, answer: &Answer) -> Result<(), AllocError> {
+fn add_whole(page: &mut Page, file: &File<'_>, answer: &ReadResult) -> Result<(), AllocError> {
     match answer {
-        Answer::Faulty(fault) => {
+        ReadResult::Invalid(fault) => {
             let name = file.name;
             page.line(&format_args!("{name}:{fault} is the first fault in the file."))
         }
-        Answer::Sound(sound) => add_sound(page, file, sound),
+        ReadResult::Valid(sound) => add_sound(page, file, sound),
     }
 }
 
@@ -58,9 +58,9 @@ fn add_missing(page: &mut Page, name: &str, number: u64, last: u64) -> Result<()
 }
 
 /// Adds how a line of the file with this name is read, and the line.
-fn add_taken(page: &mut Page, name: &str, spot: &Spot<'_>) -> Result<(), AllocError> {
+fn add_taken(page: &mut Page, name: &str, spot: &LineContext<'_>) -> Result<(), AllocError> {
     let number = spot.number;
-    let taken = taken_for(spot);
+    let taken = interpretation_of(spot);
     page.heading(&format_args!("{name}:{number}: {taken}"))?;
     page.heading(&Numbered::of(spot))
 }

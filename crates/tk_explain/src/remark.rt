@@ -2,19 +2,19 @@
 ghost use Rattle.std.specs.Prelude.{◌≡◌, option_map};
 ghost use Rattle.tk_explain.specs.Remarks as Remarks;
 
-use crate::sound::Sound;
+use crate::valid::Valid;
 use tk_diagnosis::Remark;
 use tk_params::Params;
 
 /// What is probably wrong with the contents of a file that has no fault.
-pub fn remark_on(sound: &Sound) -> Option<Remark>
+pub fn remark_on(sound: &Valid) -> Option<Remark>
     ensures { result ≡ Remarks.remark_on sound.now }
 {
     match sound {
-        Sound::Problem(_) => None,
-        Sound::Tour(tour) => on_cities(&tour.cities),
-        Sound::Solution(solution) => on_routes(&solution.routes),
-        Sound::Parameters(params) => on_names(params),
+        Valid::Problem(_) => None,
+        Valid::Tour(tour) => on_cities(&tour.cities),
+        Valid::Solution(solution) => on_routes(&solution.routes),
+        Valid::Parameters(params) => on_names(params),
     }
 }
 

@@ -10,7 +10,7 @@ use tk_words::{TextFault, TextKind};
 
 /// The fault of a file of this kind that could be read only up to the end of these bytes. Commands that expect such a
 /// file report the same fault.
-pub fn unread_fault(kind: Kind, text: &[u8]) -> FileFault
+pub fn read_failure(kind: Kind, text: &[u8]) -> FileFault
     ensures { result ≡ unread_of kind (line_behind text.now) }
 {
     let line = last_line(text);

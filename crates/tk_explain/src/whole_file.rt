@@ -1,14 +1,14 @@
 //! The explanation of a file: its first fault or, if it has none, a summary of its contents.
 ghost use Rattle.std.specs.Prelude.{◌≡◌};
 
-use crate::answer::Answer;
 use crate::fault_table::{FaultText, text_of};
 use crate::page::{CAUSES, MEANING, Page, READ, REMEDY, WANTED};
+use crate::read_result::ReadResult;
 use crate::remark::remark_on;
-use crate::sound::Sound;
+use crate::valid::Valid;
 use std::alloc::{AllocError, Global};
 use std::fmt;
-use tk_diagnosis::{FileFault, Here, Remark, Spot, here_at, shown_line, wrapped};
+use tk_diagnosis::{Diagnosis, FileFault, LineContext, Remark, diagnosis_at, shown_line, wrapped};
 use tk_kinds::{Kind, kind_of, wrapping_of};
 
 /// A file that is explained.
@@ -34,8 +34,8 @@ impl<'a> File<'a> {
     }
 
     /// The line of the file with this number.
-    pub fn spot(&self, number: u64) -> Spot<'a> {
-        Spot::new(self.alloc, self.kind, self.text, number)
+    pub fn spot(&self, number: u64) -> LineContext<'a> {
+        LineContext::new(self.alloc, self.kind, self.text, number)
     }
 }
 
@@ -43,15 +43,15 @@ impl<'a> File<'a> {
 ///
 /// # Errors
 /// `AllocError` if memory runs out, as for all functions here.
-pub fn add_answer(page: &mut Page, file: &File<'_>, answer: &Answer) -> Result<(), AllocError> {
+pub fn add_answer(page: &mut Page, file: &File<'_>, answer: &ReadResult) -> Result<(), AllocError> {
     match answer {
-        Answer::Faulty(fault) => add_fault(page, file, fault),
-        Answer::Sound(sound) => add_sound(page, file, sound),
+        ReadResult::Invalid(fault) => add_fault(page, file, fault),
+        ReadResult::Valid(sound) => add_sound(page, file, sound),
     }
 }
 
 /// Adds a summary of a file without a fault, and how such a file is used, or what is probably wrong with it.
-pub fn add_sound(page: &mut Page, file: &File<'_>, sound: &Sound) -> Result<(), AllocError> {
+pub fn add_sound(page: &mut Page, file: &File<'_>, sound: &Valid) -> Result<(), AllocError> {
     if let Some(remark) = remark_on(sound) {
         return add_remark(page, file, sound, remark);
     }
@@ -65,7 +65,7 @@ pub fn add_sound(page: &mut Page, file: &File<'_>, sound: &Sound) -> Result<(), 
 fn add_remark(
     page: &mut Page,
     file: &File<'_>,
-    sound: &Sound,
+    sound: &Valid,
     remark: Remark,
 ) -> Result<(), AllocError> {
     let name = file.name;
@@ -103,11 +103,11 @@ fn add_at(
     page: &mut Page,
     file: &File<'_>,
     fault: &FileFault,
-    spot: &Spot<'_>,
+    spot: &LineContext<'_>,
 ) -> Result<(), AllocError> {
     match wrapping_of(spot.text, spot.number, spot.line) {
         Some(wrapping) => add_here(page, file, fault, &wrapped(wrapping), false),
-        None => add_here(page, file, fault, &here_at(spot, fault)?, true),
+        None => add_here(page, file, fault, &diagnosis_at(spot, fault)?, true),
     }
 }
 
@@ -116,7 +116,7 @@ fn add_here(
     page: &mut Page,
     file: &File<'_>,
     fault: &FileFault,
-    here: &Here<'_>,
+    here: &Diagnosis<'_>,
     has_causes: bool,
 ) -> Result<(), AllocError> {
     add_lines(page, file, fault.line(), here.other)?;
@@ -130,13 +130,17 @@ fn add_here(
 }
 
 /// Adds what was expected at the line, and what was found there.
-fn add_read(page: &mut Page, here: &Here<'_>) -> Result<(), AllocError> {
+fn add_read(page: &mut Page, here: &Diagnosis<'_>) -> Result<(), AllocError> {
     page.labelled_value(WANTED, &here.wanted)?;
     page.labelled_value(READ, &here.read)
 }
 
 /// Adds what to do: the remedy of the diagnosis or, without one, that of the table of faults.
-fn add_remedy(page: &mut Page, here: &Here<'_>, general: &FaultText) -> Result<(), AllocError> {
+fn add_remedy(
+    page: &mut Page,
+    here: &Diagnosis<'_>,
+    general: &FaultText,
+) -> Result<(), AllocError> {
     match &here.remedy {
         Some(remedy) => page.labelled_value(REMEDY, remedy),
         None => page.labelled(REMEDY, general.remedy),
@@ -172,7 +176,7 @@ pub struct Numbered<'a> {
 
 impl<'a> Numbered<'a> {
     /// The line of a spot.
-    pub fn of(spot: &Spot<'a>) -> Numbered<'a> {
+    pub fn of(spot: &LineContext<'a>) -> Numbered<'a> {
         Numbered {
             number: spot.number,
             line: spot.line,

@@ -10,7 +10,7 @@ use tk_words::{Keyword, blank, integer, keyword_of, letter, word_byte};
 
 /// A line of a text or a part of it, with the number of the line, counted from 1.
 #[derive(Clone, Copy)]
-pub struct Found<'a> {
+pub struct NumberedLine<'a> {
     pub line: u64,
     pub bytes: &'a [u8],
 }
@@ -34,11 +34,11 @@ pub fn lines_of(text: &[u8]) -> Lines<'_> {
 }
 
 impl<'a> Iterator for Lines<'a> {
-    type Item = Found<'a>;
+    type Item = NumberedLine<'a>;
 
     ghost remaining = { λ s. at_most (if s.is_ended then 0 else suc (length s.rest.now)) };
 
-    fn next(&mut self) -> Option<Found<'a>> {
+    fn next(&mut self) -> Option<NumberedLine<'a>> {
         if self.is_ended {
             return None;
         }
@@ -48,7 +48,7 @@ impl<'a> Iterator for Lines<'a> {
             Some((_, rest)) => self.rest = rest,
             None => self.is_ended = true,
         }
-        Some(Found {
+        Some(NumberedLine {
             line: self.count,
             bytes,
         })
@@ -69,7 +69,7 @@ pub fn length_before(bytes: &[u8], sign: u8) -> usize
 }
 
 /// The first line of a text, and the text after it.
-#[tactic(auto, using(crate::proofs::Fronts::take_front))]
+#[tactic(auto, using(crate::proofs::FrontBytes::take_front))]
 pub fn split_line(text: &[u8]) -> (&[u8], &[u8])
     ensures line { result.0.now ≡ first_line text.now }
     ensures rest { result.1.now ≡ after_line text.now }
@@ -83,7 +83,7 @@ pub fn split_line(text: &[u8]) -> (&[u8], &[u8])
 
 /// The line with this number, if there is one.
 pub fn line_at(text: &[u8], number: u64) -> Option<&[u8]> {
-    for Found { line, bytes } in lines_of(text) {
+    for NumberedLine { line, bytes } in lines_of(text) {
         if line == number {
             return Some(bytes);
         }
@@ -131,7 +131,7 @@ fn word_end(line: &[u8]) -> usize
 }
 
 /// The letters, digits and underscores at the front of a line, and the bytes after them.
-#[tactic(auto, using(crate::proofs::Fronts::take_front))]
+#[tactic(auto, using(crate::proofs::FrontBytes::take_front))]
 fn split_word_bytes(line: &[u8]) -> (&[u8], &[u8])
     ensures word { result.0.now ≡ front is_word_byte line.now }
     ensures rest { result.1.now ≡ behind is_word_byte line.now }
@@ -195,7 +195,7 @@ impl<'a> Iterator for Tokens<'a> {
 }
 
 /// The token at the front of these bytes, after blanks, and the bytes after it. Without a token, both are empty.
-#[tactic(auto, using(crate::proofs::Fronts::take_front))]
+#[tactic(auto, using(crate::proofs::FrontBytes::take_front))]
 pub fn split_token(bytes: &[u8]) -> (&[u8], &[u8])
     ensures token { result.0.now ≡ first_token bytes.now }
     ensures rest { result.1.now ≡ after_token bytes.now }
@@ -244,12 +244,12 @@ pub fn token_after(bytes: &[u8], others: u64) -> Result<&[u8], u64> {
 }
 
 /// The number and the value of the first line that begins with this keyword; `None` if there is none before EOF.
-pub fn header(text: &[u8], word: Keyword) -> Option<Found<'_>> {
-    for Found { line, bytes } in lines_of(text) {
+pub fn header(text: &[u8], word: Keyword) -> Option<NumberedLine<'_>> {
+    for NumberedLine { line, bytes } in lines_of(text) {
         match keyword_at(bytes) {
             Some(Keyword::Eof) => return None,
             Some(found) if found == word => {
-                return Some(Found {
+                return Some(NumberedLine {
                     line,
                     bytes: value_behind(bytes, b':'),
                 });

@@ -17,15 +17,16 @@ use Rattle.tk_lines.specs.Pieces.{Piece, Extents, After, Fault, Header, first_at
 use Rattle.tk_lines.specs.Pieces.{cut, Format, stop, judge, ended, decided_by}
 use Rattle.tk_lines.specs.Reader.FromMiddle.{from_line}
 use Rattle.tk_words.specs.Texts.{line_behind}
-use Rattle.tk_lines.specs.Reader.Forms.{whole, a_header}
+use Rattle.tk_lines.specs.Reader.Handlers.{whole, a_header}
 use Rattle.tk_lines.specs.Reader.Places.{Next, Within, anything, this, no_word, a_line_end, Says, DecidesIf, IsWord}
 use Rattle.tk_lines.specs.Reader.Places.{AtLine, AtTail, HeaderTaken}
 use Rattle.tk_lines.proofs.MiddleOfLine.{with_bytes, from_line-byte, from_line-blank}
 use Rattle.tk_lines.proofs.Sections.SectionEnds.{first_line}
 use Rattle.tk_lines.proofs.Headers.ByteRuns.{behind-all, front-all}
-use Rattle.tk_lines.proofs.Lines.{from_line-unknown, from_line-eof, from_line-section, from_line-long, from_line-header}
-use Rattle.tk_lines.proofs.Lines.{from_line-last, blank_letter, differs}
-use Rattle.tk_lines.proofs.SamePlaces.{line_told}
+use Rattle.tk_lines.proofs.KnownWordLines.{from_line-unknown, from_line-eof, from_line-section, from_line-long}
+use Rattle.tk_lines.proofs.KnownWordLines.{from_line-header}
+use Rattle.tk_lines.proofs.KnownWordLines.{from_line-last, blank_letter, differs}
+use Rattle.tk_lines.proofs.SameStates.{line_reported}
 
 -- ---- lines of bytes
 
@@ -112,20 +113,20 @@ stop_header f before word tail n short = rw (le-ltb _ _ short) refl
 module _ {V S : Type 0} (f : Format V) (H : S → List Piece → Type 0) (form : S) (line b : ℕ) (bs : List ℕ) where
   pub line_LF : AtLine f H (this LF) form line [] bs → AtLine f H anything form (line + 1) [] (bs ++ LF ∷ [])
   line_LF a =
-      line_told a (omega (arith, a.lt))
+      line_reported a (omega (arith, a.lt))
       (says_byte f LF bs _ _ a.same (λ e more. from_line-blank f a.before a.upto [] e line more a.lt refl
       ∙ ap (λ (n : ℕ). from_line f a.before a.upto [] e n more) (omega arith)))
 
   pub line_byte : (pre : List ℕ) → eqb b LF ≡ false → AtLine f H (this b) form line pre bs →
       AtLine f H anything form line (pre ++ b ∷ []) (bs ++ b ∷ [])
   line_byte pre other a =
-      line_told a a.lt
+      line_reported a a.lt
       (says_byte f b bs _ _ a.same (λ e more. from_line-byte f a.before a.upto pre e line b more other))
 
   pub line_blank : eqb b LF ≡ false → is_blank b ≡ true → AtLine f H (this b) form line [] bs →
       AtLine f H anything form line [] (bs ++ b ∷ [])
   line_blank other blank a =
-      line_told a a.lt
+      line_reported a a.lt
       (says_byte f b bs _ _ a.same (λ e more. from_line-byte f a.before a.upto [] e line b more other
       ∙ from_line-drop f a.before a.upto e line more b blank))
 

@@ -1,3 +1,3 @@
 pub mod PieceLookups
 pub mod PieceValues
-pub mod ToldFaults
+pub mod ReportedFaults

@@ -1,6 +1,6 @@
-pub mod FormSteps
-pub mod Forms
+pub mod HandlerSteps
+pub mod Handlers
 pub mod FromMiddle
 pub mod Places
-pub mod Scan
+pub mod ValueScanner
 pub mod Steps

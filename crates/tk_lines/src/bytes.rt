@@ -1,12 +1,12 @@
 //! How a reader takes one byte of a text, in each of its states.
 ghost use Rattle.std.specs.Prelude.{◌≡◌, ◌^◌, ◌≤◌, ◌||◌, ◌==◌, true, false};
 ghost use Rattle.tk_words.specs.Lex.{is_blank, is_word_byte};
-ghost use Rattle.tk_lines.specs.declared.place.Place.TheVariants as places;
+ghost use Rattle.tk_lines.specs.declared.line_state.LineState.TheVariants as places;
 ghost use Rattle.tk_lines.specs.Reader.Places.{this, anything};
 ghost use Rattle.tk_lines.specs.Reader.Steps.{IsFed, TakesByte, TakesSettled, ends_at};
 
-use crate::form::Form;
-use crate::place::{Flow, Place};
+use crate::handler::Handler;
+use crate::line_state::{Flow, LineState};
 use crate::reader::PieceReader;
 use tk_words::{
     Keyword, TextFault, TextKind, begins_minus_one, blank, blank_or_end, letter, word_byte,
@@ -15,7 +15,7 @@ use tk_words::{
 /// Maximum number of bytes between a header's word and the end of its line.
 const HEADER_LIMIT: u32 = 4096;
 
-impl<F: Form> PieceReader<F> {
+impl<F: Handler> PieceReader<F> {
     /// Takes a byte before the first word of a line.
     fn feed_start(&mut self, byte: u8) -> Result<Flow, TextFault>
         requires place { self.old.place ≡ places.Start }
@@ -32,7 +32,7 @@ impl<F: Form> PieceReader<F> {
         if !letter(byte) {
             return Err(self.fault(TextKind::TrailingData));
         }
-        self.begin(byte, Place::Word);
+        self.begin(byte, LineState::Word);
         Ok(Flow::On)
     }
 
@@ -80,7 +80,7 @@ impl<F: Form> PieceReader<F> {
             return Ok(Flow::On);
         }
         if !blank(byte) {
-            self.begin(byte, Place::Token);
+            self.begin(byte, LineState::Token);
         }
         Ok(Flow::On)
     }
@@ -94,7 +94,7 @@ impl<F: Form> PieceReader<F> {
         if blank(byte) {
             return Ok(Flow::On);
         }
-        self.place = Place::Gap;
+        self.place = LineState::Gap;
         if byte == b':' {
             return Ok(Flow::On);
         }
@@ -122,7 +122,7 @@ impl<F: Form> PieceReader<F> {
     {
         if byte == b'\n' {
             self.line += 1;
-            self.place = Place::Start;
+            self.place = LineState::Start;
             return Ok(Flow::On);
         }
         if blank(byte) {
@@ -139,7 +139,7 @@ impl<F: Form> PieceReader<F> {
     {
         if byte == b'\n' {
             self.line += 1;
-            self.place = Place::After(false);
+            self.place = LineState::After(false);
             return Ok(Flow::On);
         }
         if blank(byte) {
@@ -149,13 +149,13 @@ impl<F: Form> PieceReader<F> {
             if on_line {
                 return Err(self.fault(TextKind::TrailingData));
             }
-            self.begin(byte, Place::Word);
+            self.begin(byte, LineState::Word);
             return Ok(Flow::On);
         }
         if byte != b'-' {
             return Err(self.fault(TextKind::TrailingData));
         }
-        self.begin(byte, Place::MinusOne(on_line));
+        self.begin(byte, LineState::MinusOne(on_line));
         Ok(Flow::On)
     }
 
@@ -178,8 +178,8 @@ impl<F: Form> PieceReader<F> {
         ensures { result ≡ ends_at byte self.now.place }
     {
         match self.place {
-            Place::Word => !word_byte(byte),
-            Place::Token | Place::MinusOne(_) => blank_or_end(byte),
+            LineState::Word => !word_byte(byte),
+            LineState::Token | LineState::MinusOne(_) => blank_or_end(byte),
             _ => false,
         }
     }
@@ -195,15 +195,15 @@ impl<F: Form> PieceReader<F> {
         ensures { TakesSettled F.promise self.old self.new byte result }
     {
         match self.place {
-            Place::Start => self.feed_start(byte),
-            Place::Word => self.feed_word(byte),
-            Place::Value(word) => self.feed_value(byte, word),
-            Place::Begin => self.feed_begin(byte),
-            Place::Gap => self.feed_gap(byte),
-            Place::Token => self.feed_token(byte),
-            Place::Close => self.feed_close(byte),
-            Place::After(on_line) => self.feed_after(byte, on_line),
-            Place::MinusOne(on_line) => self.feed_minus_one(byte, on_line),
+            LineState::Start => self.feed_start(byte),
+            LineState::Word => self.feed_word(byte),
+            LineState::Value(word) => self.feed_value(byte, word),
+            LineState::Begin => self.feed_begin(byte),
+            LineState::Gap => self.feed_gap(byte),
+            LineState::Token => self.feed_token(byte),
+            LineState::Close => self.feed_close(byte),
+            LineState::After(on_line) => self.feed_after(byte, on_line),
+            LineState::MinusOne(on_line) => self.feed_minus_one(byte, on_line),
         }
     }
 

@@ -1,17 +1,17 @@
 //! How words, header values and tokens end.
 ghost use Rattle.std.specs.Prelude.{◌≡◌, ◌≤◌, length, Ok, IfOk};
-ghost use Rattle.tk_lines.specs.declared.place.Place.TheVariants as places;
-ghost use Rattle.tk_lines.specs.declared.place.Flow.TheVariants as flows;
+ghost use Rattle.tk_lines.specs.declared.line_state.LineState.TheVariants as places;
+ghost use Rattle.tk_lines.specs.declared.line_state.Flow.TheVariants as flows;
 ghost use Rattle.tk_lines.specs.Reader.Places.{a_gap, no_word};
 ghost use Rattle.tk_lines.specs.Reader.Steps.{Closes, ClosesHeader, ClosesPlace, EndsToken, IsKnown, IsSettled};
 
-use crate::form::{Form, Taken};
-use crate::place::{Flow, Place};
+use crate::handler::{Handler, Taken};
+use crate::line_state::{Flow, LineState};
 use crate::reader::PieceReader;
 use std::mem;
-use tk_words::{Held, Keyword, Lexeme, Role, TextFault, TextKind, keyword_of, minus_one};
+use tk_words::{ByteBuffer, Keyword, Lexeme, Role, TextFault, TextKind, keyword_of, minus_one};
 
-impl<F: Form> PieceReader<F> {
+impl<F: Handler> PieceReader<F> {
     ghost use Rattle.tk_words.specs.declared.keyword.Keyword.{Keyword};
 
     /// Ends the first word of a line.
@@ -35,13 +35,13 @@ impl<F: Form> PieceReader<F> {
             },
             Role::BeginsHeader => {
                 self.scan.clear();
-                self.place = Place::Value(word);
+                self.place = LineState::Value(word);
                 Ok(Flow::On)
             }
             Role::BeginsSection => match self.form.section(word) {
                 Err(kind) => Err(self.fault(kind)),
                 Ok(()) => {
-                    self.place = Place::Begin;
+                    self.place = LineState::Begin;
                     Ok(Flow::On)
                 }
             },
@@ -61,7 +61,7 @@ impl<F: Form> PieceReader<F> {
         match self.form.header(word, &self.scan) {
             Err(kind) => Err(self.fault(kind)),
             Ok(()) => {
-                self.place = Place::Start;
+                self.place = LineState::Start;
                 Ok(())
             }
         }
@@ -82,15 +82,15 @@ impl<F: Form> PieceReader<F> {
         match self.form.token(token) {
             Err(kind) => Err(self.fault(kind)),
             Ok(Taken::More) => {
-                self.place = Place::Gap;
+                self.place = LineState::Gap;
                 Ok(Flow::On)
             }
             Ok(Taken::Last) => {
-                self.place = Place::Close;
+                self.place = LineState::Close;
                 Ok(Flow::On)
             }
             Ok(Taken::Ending) => {
-                self.place = Place::After(true);
+                self.place = LineState::After(true);
                 Ok(Flow::On)
             }
             Ok(Taken::Eof) => match self.form.end() {
@@ -111,7 +111,7 @@ impl<F: Form> PieceReader<F> {
         ensures settled { result ≡ Ok flows.On → IsSettled self.new.place }
         ensures line { self.new.line ≡ self.old.line }
     {
-        let held = mem::replace(&mut self.held, Held::new());
+        let held = mem::replace(&mut self.held, ByteBuffer::new());
         let token = Lexeme::new(held.as_slice());
         self.take_token(&token)
     }
@@ -127,7 +127,7 @@ impl<F: Form> PieceReader<F> {
         ensures line { self.new.line ≡ self.old.line }
     {
         if minus_one(self.held.as_slice()) {
-            self.place = Place::Close;
+            self.place = LineState::Close;
             return Ok(Flow::On);
         }
         Err(self.fault(TextKind::TrailingData))
@@ -144,9 +144,9 @@ impl<F: Form> PieceReader<F> {
         ensures line { self.new.line ≡ self.old.line }
     {
         match self.place {
-            Place::Word => self.end_word(),
-            Place::Token => self.end_token(),
-            Place::MinusOne(on_line) => self.end_minus_one(on_line),
+            LineState::Word => self.end_word(),
+            LineState::Token => self.end_token(),
+            LineState::MinusOne(on_line) => self.end_minus_one(on_line),
             _ => Ok(Flow::On),
         }
     }

@@ -2,18 +2,18 @@
 ghost use Rattle.std.specs.Prelude.{◌≡◌, ℕ, List, [], refl};
 ghost use Rattle.tk_problem.specs.declared.limits.TheConstants.{TEXT_LIMIT};
 ghost use Rattle.tk_words.specs.Texts.{texts_of};
-ghost use Rattle.tk_lines.specs.declared.place.Place.TheVariants as places;
+ghost use Rattle.tk_lines.specs.declared.line_state.LineState.TheVariants as places;
 ghost use Rattle.tk_lines.specs.Pieces.{decided_by};
 ghost use Rattle.tk_lines.specs.Reader.Places.{at_end, AtToken, AtEnd};
 ghost use Rattle.tk_lines.specs.Reader.Steps.{Waits, IsFed, HasFinished, Finishes};
 
-use crate::form::Form;
-use crate::place::{Flow, Place};
+use crate::handler::Handler;
+use crate::line_state::{Flow, LineState};
 use crate::reader::PieceReader;
 use tk_problem::TEXT_LIMIT;
-use tk_words::{Keyword, Step, TextFault, TextKind, TextReader};
+use tk_words::{FeedResult, Keyword, TextFault, TextKind, TextReader};
 
-impl<F: Form> PieceReader<F> {
+impl<F: Handler> PieceReader<F> {
     /// Ends a text in which no word, token, value or section is open.
     fn end_text(&self) -> Result<(), TextFault>
         ensures { (before : List ℕ) → AtEnd F.promise.format F.promise.holds self.now.form self.now.line before
@@ -56,15 +56,15 @@ impl<F: Form> PieceReader<F> {
             Flow::On => {}
         }
         match self.place {
-            Place::Value(word) => self.end_value(word),
-            Place::Begin => self.end_section(),
-            Place::Gap => self.end_section(),
+            LineState::Value(word) => self.end_value(word),
+            LineState::Begin => self.end_section(),
+            LineState::Gap => self.end_section(),
             _ => self.end_text(),
         }
     }
 }
 
-impl<F: Form> TextReader for PieceReader<F> {
+impl<F: Handler> TextReader for PieceReader<F> {
     type Out = F::Out;
 
     type Fault = TextFault;
@@ -81,19 +81,19 @@ impl<F: Form> TextReader for PieceReader<F> {
 
     ghost complete = { λ reader. F.promise.complete reader.form };
 
-    ghost too_long_told = { λ line. refl };
+    ghost too_long_reported = { λ line. refl };
 
     ghost waits = { λ reader before waits. waits.undecided };
 
-    fn feed(&mut self, bytes: &[u8]) -> Result<Step, TextFault> {
+    fn feed(&mut self, bytes: &[u8]) -> Result<FeedResult, TextFault> {
         match self.feed_tokens(bytes)? {
-            Step::Done => return Ok(Step::Done),
-            Step::Taken(0) => {}
-            Step::Taken(count) => return Ok(Step::Taken(count)),
+            FeedResult::Done => return Ok(FeedResult::Done),
+            FeedResult::Taken(0) => {}
+            FeedResult::Taken(count) => return Ok(FeedResult::Taken(count)),
         }
         match self.feed_byte(bytes[0])? {
-            Flow::On => Ok(Step::Taken(1)),
-            Flow::Whole => Ok(Step::Done),
+            Flow::On => Ok(FeedResult::Taken(1)),
+            Flow::Whole => Ok(FeedResult::Done),
         }
     }
 

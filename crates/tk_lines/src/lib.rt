@@ -4,12 +4,12 @@
 mod bytes;
 mod ends;
 mod finish;
-mod form;
-mod place;
+mod handler;
+mod line_state;
 mod reader;
 mod run;
-mod scan;
+mod value_scanner;
 
-pub use form::{Form, Taken};
+pub use handler::{Handler, Taken};
 pub use reader::PieceReader;
-pub use scan::Scan;
+pub use value_scanner::ValueScanner;

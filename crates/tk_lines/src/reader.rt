@@ -1,22 +1,22 @@
 //! A reader that splits a text into pieces and passes them to a form.
 ghost use Rattle.std.specs.Prelude.{◌≡◌, [], ◌∷◌};
 
-use crate::form::Form;
-use crate::place::Place;
-use crate::scan::Scan;
-use tk_words::{Held, TextFault, TextKind};
+use crate::handler::Handler;
+use crate::line_state::LineState;
+use crate::value_scanner::ValueScanner;
+use tk_words::{ByteBuffer, TextFault, TextKind};
 
 /// Splits the bytes of a text into pieces and passes them to a form.
 #[derive(Drop)]
 pub struct PieceReader<F> {
     pub line: u64,
-    pub place: Place,
-    pub held: Held<64>,
-    pub scan: Scan,
+    pub place: LineState,
+    pub held: ByteBuffer<64>,
+    pub scan: ValueScanner,
     pub form: F,
 }
 
-impl<F: Form> PieceReader<F> {
+impl<F: Handler> PieceReader<F> {
     ghost use Rattle.tk_lines.specs.Reader.Steps.{Waits};
 
     /// A reader at the beginning of a text, for a form that has taken no pieces.
@@ -26,9 +26,9 @@ impl<F: Form> PieceReader<F> {
     {
         PieceReader {
             line: 1,
-            place: Place::Start,
-            held: Held::new(),
-            scan: Scan::new(),
+            place: LineState::Start,
+            held: ByteBuffer::new(),
+            scan: ValueScanner::new(),
             form,
         }
     }
@@ -44,7 +44,7 @@ impl<F: Form> PieceReader<F> {
     }
 
     /// Begins a word or a token with this byte.
-    pub(crate) fn begin(&mut self, byte: u8, place: Place)
+    pub(crate) fn begin(&mut self, byte: u8, place: LineState)
         ensures { self.new ≡ record self.old { held = byte ∷ []; place = place } }
     {
         self.held.clear();

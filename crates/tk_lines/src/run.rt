@@ -4,12 +4,12 @@ ghost use Rattle.tk_words.specs.Lex.{is_blank};
 ghost use Rattle.tk_lines.specs.Reader.Places.{Fed, IsToken, IsInSection, anything, this};
 ghost use Rattle.tk_lines.specs.Reader.Steps.{IsFed, TakesRun, TakesSettled, TakesWhole, ends_at};
 
-use crate::form::Form;
-use crate::place::{Flow, Place};
+use crate::handler::Handler;
+use crate::line_state::{Flow, LineState};
 use crate::reader::PieceReader;
-use tk_words::{Lexeme, Step, TextFault};
+use tk_words::{FeedResult, Lexeme, TextFault};
 
-impl<F: Form> PieceReader<F> {
+impl<F: Handler> PieceReader<F> {
     /// Takes a whole token of a section, and the byte after it.
     ///
     /// # Errors
@@ -38,7 +38,7 @@ impl<F: Form> PieceReader<F> {
         ensures { TakesSettled F.promise self.old self.new byte result }
     {
         match self.place {
-            Place::Gap => self.feed_gap(byte),
+            LineState::Gap => self.feed_gap(byte),
             _ => self.feed_settled(byte),
         }
     }
@@ -48,22 +48,22 @@ impl<F: Form> PieceReader<F> {
     ///
     /// # Errors
     /// The fault of one of these tokens, with its line.
-    pub(crate) fn feed_tokens(&mut self, bytes: &[u8]) -> Result<Step, TextFault>
+    pub(crate) fn feed_tokens(&mut self, bytes: &[u8]) -> Result<FeedResult, TextFault>
         requires { (before : List ℕ) × Fed F.promise anything self.old before
             × (length before + length bytes.now ≤ 2 ^ 63) }
         ensures { TakesRun F.promise self.old self.new bytes.now result }
     {
         let mut start = 0;
-        while let Place::Gap = self.place {
+        while let LineState::Gap = self.place {
             let Some(token) = Lexeme::first(&bytes[start..]) else {
                 break;
             };
             let end = start + token.len();
             match self.feed_whole(&token, bytes[end])? {
-                Flow::Whole => return Ok(Step::Done),
+                Flow::Whole => return Ok(FeedResult::Done),
                 Flow::On => start = end + 1,
             }
         }
-        Ok(Step::Taken(start))
+        Ok(FeedResult::Taken(start))
     }
 }

@@ -3,11 +3,11 @@ use Rattle.std.proofs.Common.{◌≡◌, ℕ, ◌+◌, Bool, true, false, List, 
 use Rattle.std.proofs.lemmas.List.{append-nil}
 use Rattle.tk_words.specs.declared.fault.TextKind.{TextKind}
 use Rattle.tk_words.specs.declared.fault.TextKind.TheVariants as kinds
-use Rattle.tk_lists.specs.declared.solution_form.SolutionForm.{SolutionForm}
+use Rattle.tk_lists.specs.declared.solution_handler.SolutionHandler.{SolutionHandler}
 use Rattle.tk_lists.specs.declared.solution_reader.LinePlace.TheVariants as places
 use Rattle.tk_words.specs.Lex.{Token, is_blank}
 use Rattle.tk_lines.specs.Pieces.{Fault}
-use Rattle.tk_lines.specs.Reader.Forms.{whole}
+use Rattle.tk_lines.specs.Reader.Handlers.{whole}
 use Rattle.tk_lines.specs.Reader.Places.{IsToken}
 use Rattle.tk_lists.specs.Solution.{SolutionLine, Empty, Other, Route, has_cost, count_of, solid_line, line_stop}
 use Rattle.tk_lists.specs.Solution.{customer_stop, cost_stop}
@@ -17,7 +17,7 @@ use Rattle.tk_lines.proofs.Sections.SectionBytes.{first_token}
 use Rattle.tk_lines.proofs.Sections.MiddleOfSection.{tokens_of-none, tokens_of-last}
 use Rattle.tk_lists.proofs.SolutionLines.{keeps_line, customers_at}
 
-module _ (s : SolutionForm) (before : List SolutionLine) (held : List ℕ) (n : ℕ) (toks : List Token) where
+module _ (s : SolutionHandler) (before : List SolutionLine) (held : List ℕ) (n : ℕ) (toks : List Token) where
   pub end_start : IsAtPlace s before held n toks places.Start →
       HasEndedLine before n (line_from n held toks places.Start [] true) s
   end_start at = record { fine = refl; keeps = keeps_line s before Empty refl refl refl at.1 }

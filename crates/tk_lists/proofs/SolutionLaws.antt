@@ -11,15 +11,16 @@ use Rattle.tk_words.specs.declared.fault.TextFault.{TextFault}
 use Rattle.tk_words.specs.Lex.{Line, Token, lines, tokens_of, is_blank, is_word_byte, front, behind, after_word}
 use Rattle.tk_words.specs.TextLaws.{HasAnswers, StaysDecided}
 use Rattle.tk_words.specs.Words.{spells}
-use Rattle.tk_words.proofs.Bools.{and_false}
+use Rattle.tk_words.proofs.BoolLaws.{and_false}
 use Rattle.tk_lines.specs.Pieces.{Stop, Open, Fault, first_at, checked, or_else}
-use Rattle.tk_lines.proofs.Answered.{AreWhole, NotOpen, WholeTokens, not_open_checked, not_open_first, not_open_or}
-use Rattle.tk_lines.proofs.Answered.{some_stopped, whole_lines, whole_tokens_of}
-use Rattle.tk_lines.proofs.Growing.{a_line, Lasts, checked_grown, lines_grow, or_else_kept, stopped_kept, stopped_stays}
-use Rattle.tk_lines.proofs.Growing.{tokens_after, tokens_grow}
+use Rattle.tk_lines.proofs.EndedTexts.{AreWhole, NotOpen, WholeTokens, not_open_checked, not_open_first, not_open_or}
+use Rattle.tk_lines.proofs.EndedTexts.{some_stopped, whole_lines, whole_tokens_of}
+use Rattle.tk_lines.proofs.LinesAndMoreBytes.{a_line, Lasts, checked_grown, lines_grow, or_else_kept, stopped_kept}
+use Rattle.tk_lines.proofs.LinesAndMoreBytes.{stopped_stays}
+use Rattle.tk_lines.proofs.LinesAndMoreBytes.{tokens_after, tokens_grow}
 use Rattle.tk_lines.proofs.Headers.ByteRuns.{front-whole, front_grows}
 use Rattle.tk_lines.proofs.MiddleOfLine.{behind-more, front-more}
-use Rattle.tk_lines.proofs.Steady.{stops, stops_grown}
+use Rattle.tk_lines.proofs.SettledSections.{stops, stops_grown}
 use Rattle.tk_lists.specs.Solution.{Head, Short, Bad, Behind, Solution, SolutionLine, Other, Cost, colon_head}
 use Rattle.tk_lists.specs.Solution.{digits_head, without_first, number_head, route_head, is_sign, is_hash, route_line}
 use Rattle.tk_lists.specs.Solution.{may_be_word, by_word, solid_line, line_of, has_cost, count_of, customer_tests}

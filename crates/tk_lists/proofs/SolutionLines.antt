@@ -5,13 +5,13 @@ use Rattle.std.proofs.Common.{arith}
 use Rattle.std.proofs.lemmas.Bool.{le-leb, lt-leb, le-ltb, or_parts}
 use Rattle.std.proofs.Math.Bool.{or_assoc, or-false}
 use Rattle.std.proofs.lemmas.List.{append-nil, length-append}
-use Rattle.tk_lists.specs.declared.solution_form.SolutionForm.{SolutionForm}
+use Rattle.tk_lists.specs.declared.solution_handler.SolutionHandler.{SolutionHandler}
 use Rattle.tk_words.specs.Lex.{Token, integer}
 use Rattle.tk_lists.specs.Solution.{SolutionLine, Route, Cost, cost_stop, line_trailing_stop, customer_stop}
 use Rattle.tk_lists.specs.Solution.{customers_stop, routes_on, routes_in, count_on, count_of, is_cost, has_cost}
 use Rattle.tk_lists.specs.Solution.{cost_on, cost_of}
 use Rattle.tk_lists.specs.Reader.SolutionReader.{Keeps, IsRoute, IsPriced}
-use Rattle.tk_lines.specs.Reader.Forms.{whole}
+use Rattle.tk_lines.specs.Reader.Handlers.{whole}
 use Rattle.tk_lines.specs.Pieces.{Stop, or_else}
 use Rattle.std.specs.Int.Signed.{lt_z}
 use Rattle.tk_problem.specs.declared.limits.TheConstants.{ENTRY_LIMIT}
@@ -48,7 +48,7 @@ no_cost (x ∷ xs) h =
     rw none.0 (no_cost xs none.1)
 
 -- a line of which nothing is kept
-pub keeps_line : (s : SolutionForm) (before : List SolutionLine) (l : SolutionLine) → routes_on l ≡ [] →
+pub keeps_line : (s : SolutionHandler) (before : List SolutionLine) (l : SolutionLine) → routes_on l ≡ [] →
     count_on l ≡ 0 → is_cost l ≡ false → Keeps s before [] → Keeps s (before ++ l ∷ []) []
 keeps_line s before l no_route no_customer plain k = record {
   routes = k.routes ∙ sym (routes_of-append before (l ∷ []) ∙ rw no_route (append-nil (routes_in before)));
@@ -63,7 +63,7 @@ keeps_line s before l no_route no_customer plain k = record {
     same false xs h = sym (no_cost xs h)
 
 -- a route that is whole
-pub keeps_route : (s t : SolutionForm) (before : List SolutionLine) (toks : List Token) → Keeps s before toks
+pub keeps_route : (s t : SolutionHandler) (before : List SolutionLine) (toks : List Token) → Keeps s before toks
     → has_cost before ≡ false → map (λ r. r.items) t.routes.items ≡ map (λ r. r.items) s.routes.items ++ s.route.items
     ∷ [] → t.route.items ≡ []
     → t.customers ≡ s.customers → t.priced ≡ s.priced → t.cost ≡ s.cost → Keeps t (before ++ Route toks ∷ []) []
@@ -107,7 +107,7 @@ customer_fine k n m bs short is low few =
     rw (a, is, z, b, c) refl
 
 -- one customer more
-pub keeps_customer : (s t : SolutionForm) (before : List SolutionLine) (toks : List Token) (n m : ℕ) (bs : List ℕ)
+pub keeps_customer : (s t : SolutionHandler) (before : List SolutionLine) (toks : List Token) (n m : ℕ) (bs : List ℕ)
     → length bs ≤ 64 → integer bs ≡ Some (pos m) → m ≤ 4294967295 → s.customers < ENTRY_LIMIT
     → t.routes ≡ s.routes → t.route.items ≡ s.route.items ++ m ∷ [] → t.customers ≡ s.customers + 1
     → t.priced ≡ s.priced → t.cost ≡ s.cost
@@ -136,7 +136,7 @@ natural_line : (t : Token) (ts : List Token) (n m : ℕ) (ended : Bool) → leng
     integer t.bytes ≡ Some (pos m) → cost_stop n ended (t ∷ ts) ≡ line_trailing_stop n ts
 natural_line t ts n m ended short all is = rw (le-ltb _ _ short, all, is) refl
 
-pub keeps_cost : (s t : SolutionForm) (before : List SolutionLine) (n : ℕ) (bs : List ℕ) (z : ℤ) → length bs ≤ 64
+pub keeps_cost : (s t : SolutionHandler) (before : List SolutionLine) (n : ℕ) (bs : List ℕ) (z : ℤ) → length bs ≤ 64
     → integer bs ≡ Some z → lt_z z (pos 0) ≡ false
     → t.routes ≡ s.routes → t.route ≡ s.route → t.customers ≡ s.customers → t.priced ≡ true → t.cost ≡ z
     → Keeps s before [] → has_cost before ≡ false → IsPriced t before n (whole bs n ∷ [])

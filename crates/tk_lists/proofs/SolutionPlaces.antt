@@ -6,7 +6,7 @@ use Rattle.std.proofs.lemmas.List.{append-nil}
 use Rattle.tk_words.specs.declared.fault.TextKind.{TextKind}
 use Rattle.tk_lists.specs.declared.route_head.HeadPlace.{HeadPlace}
 use Rattle.tk_lists.specs.declared.route_head.HeadPlace.TheVariants as heads
-use Rattle.tk_lists.specs.declared.solution_form.SolutionForm.{SolutionForm}
+use Rattle.tk_lists.specs.declared.solution_handler.SolutionHandler.{SolutionHandler}
 use Rattle.tk_lists.specs.declared.solution_reader.LinePlace.{LinePlace}
 use Rattle.tk_lists.specs.declared.solution_reader.LinePlace.TheVariants as places
 use Rattle.tk_words.specs.Lex.{LF, Token, lines, is_word_byte}
@@ -92,7 +92,7 @@ customer_open : (k n : ℕ) (held : List ℕ) → length held ≤ 64 →
     customer_stop k (record { bytes = held; line = n; whole = false }) ≡ Some Open
 customer_open k n held short = let test : ltb 64 (length held) ≡ false = le-ltb _ _ short in rw test refl
 
-pub waits : (s : SolutionForm) (before : List SolutionLine) (held : List ℕ) (n : ℕ) (toks : List Token)
+pub waits : (s : SolutionHandler) (before : List SolutionLine) (held : List ℕ) (n : ℕ) (toks : List Token)
     (p : LinePlace) → IsAtPlace s before held n toks p → Waits before n (line_from n held toks p [] false)
 waits s before held n toks places.Start at = refl
 waits s before held n toks places.Word at = rw (append-nil held, solid_open n held at.2) refl

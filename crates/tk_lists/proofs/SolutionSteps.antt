@@ -10,17 +10,17 @@ use Rattle.tk_lists.specs.declared.solution_reader.LinePlace.TheVariants as plac
 use Rattle.tk_lists.specs.declared.solution_reader.SolutionReader.{SolutionReader}
 use Rattle.tk_words.specs.Lex.{Token, tokens_of, is_blank}
 use Rattle.tk_lines.specs.Pieces.{Fault}
-use Rattle.tk_lines.specs.Reader.Forms.{IsToldWord, whole}
+use Rattle.tk_lines.specs.Reader.Handlers.{IsReportedWord, whole}
 use Rattle.tk_lines.specs.Reader.Places.{IsToken}
 use Rattle.tk_lists.specs.Solution.{SolutionLine, Route, Cost, has_cost, count_of, customer_stop, cost_stop}
 use Rattle.tk_lists.specs.Reader.SolutionReader.{IsRoute, line_from, Went, LineStopsAt}
-use Rattle.tk_lines.proofs.Pieces.ToldFaults.{told_word}
+use Rattle.tk_lines.proofs.Pieces.ReportedFaults.{reported_word}
 use Rattle.tk_lines.proofs.Sections.SectionSteps.{run_more}
 use Rattle.tk_lines.proofs.Sections.SectionBytes.{Front, front_token}
 use Rattle.tk_lines.proofs.Sections.MiddleOfSection.{tokens_of-run}
 use Rattle.tk_lists.proofs.SolutionLines.{customers_at}
 
--- the same line, told in two ways
+-- the same line, reported in two ways
 module _ (before : List SolutionLine) (n b : ℕ) (g h : List ℕ → Bool → SolutionLine)
     (same : (bs : List ℕ) (w : Bool) → h (b ∷ bs) w ≡ g (b ∷ bs) w) where
   pub went_same : (s : SolutionReader) → Went before b g s → Went before b h s
@@ -35,9 +35,9 @@ module _ (before : List SolutionLine) (n b : ℕ) (g h : List ℕ → Bool → S
   ok_same r s = IfOk-weaker r _ _ (λ _. went_same s)
 
   pub err_same : {T : Type 0} (r : Result T TextKind) →
-      IfErr r (IsToldWord (LineStopsAt before n b g)) → IfErr r (IsToldWord (LineStopsAt before n b h))
+      IfErr r (IsReportedWord (LineStopsAt before n b g)) → IfErr r (IsReportedWord (LineStopsAt before n b h))
   err_same r =
-      IfErr-weaker r _ _ (λ k. told_word (LineStopsAt before n b g) (LineStopsAt before n b h) k (stops_same k))
+      IfErr-weaker r _ _ (λ k. reported_word (LineStopsAt before n b g) (LineStopsAt before n b h) k (stops_same k))
 
 -- a token that was full, and one byte more
 record IsLong (n b : ℕ) (held bs : List ℕ) (w : Bool) : Type 0 where

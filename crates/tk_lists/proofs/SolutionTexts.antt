@@ -5,7 +5,7 @@ use Rattle.std.proofs.lemmas.List.{append-nil}
 use Rattle.tk_words.specs.declared.fault.TextKind.{TextKind}
 use Rattle.tk_words.specs.declared.fault.TextKind.TheVariants as kinds
 use Rattle.tk_words.specs.declared.keyword.Keyword.TheVariants as words
-use Rattle.tk_lists.specs.declared.solution_form.SolutionForm.{SolutionForm}
+use Rattle.tk_lists.specs.declared.solution_handler.SolutionHandler.{SolutionHandler}
 use Rattle.tk_lists.specs.declared.solution_reader.LinePlace.TheVariants as places
 use Rattle.tk_lists.specs.declared.solution_reader.SolutionReader.{SolutionReader}
 use Rattle.tk_words.specs.Texts.{Decides, DecidesEnded}
@@ -82,7 +82,7 @@ module _ (s : SolutionReader) (bs : List ℕ) (fed : FedLines s bs) (k : TextKin
   end_stops stop = ap (solution_decided true) (sym (append-nil bs)) ∙ fed.same true []
       ∙ from_end_stops fed.before (rest_of s fed.toks) s.line k stop
 
-module _ (s : SolutionReader) (bs : List ℕ) (fed : FedLines s bs) (t : SolutionForm)
+module _ (s : SolutionReader) (bs : List ℕ) (fed : FedLines s bs) (t : SolutionHandler)
     (ended : HasEndedLine fed.before s.line (rest_of s fed.toks [] true) t) where
   at_the_end : solution_decided true bs ≡ solution_at_end (fed.before ++ rest_of s fed.toks [] true ∷ []) s.line true
   at_the_end = ap (solution_decided true) (sym (append-nil bs)) ∙ fed.same true []

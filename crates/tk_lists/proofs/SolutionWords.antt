@@ -5,7 +5,7 @@ use Rattle.std.specs.Prelude.{codes}
 use Rattle.std.specs.Char.{to_ascii_uppercase}
 use Rattle.std.proofs.lemmas.List.{append-nil, length-append, length-take}
 use Rattle.std.proofs.lemmas.Bool.{and_parts, or_cases, or_parts}
-use Rattle.tk_words.proofs.Bools.{and_false}
+use Rattle.tk_words.proofs.BoolLaws.{and_false}
 use Rattle.tk_lines.specs.Pieces.{Stop, first_at}
 use Rattle.tk_words.specs.Lex.{tokens_of, after_word, is_word_byte, is_empty, front, behind}
 use Rattle.tk_words.specs.Words.{spells}

@@ -8,12 +8,12 @@ use Rattle.tk_words.specs.Lex.{Token}
 use Rattle.tk_words.specs.TextLaws.{HasAnswers, StaysDecided}
 use Rattle.tk_lines.specs.Lists.{list_entries, list_extent, trailing_stop}
 use Rattle.tk_lines.specs.Pieces.{After, Piece, Stop, Fault, first_at, checked, or_else, has}
-use Rattle.tk_lines.proofs.Answered.{AnswersSections, NotOpen, WholeTokens, not_open_checked, not_open_first}
-use Rattle.tk_lines.proofs.Answered.{not_open_or, not_open_trailing, some_decided, whole_entries}
-use Rattle.tk_lines.proofs.Growing.{Lasts}
-use Rattle.tk_lines.proofs.Staying.{decided_stays}
-use Rattle.tk_lines.proofs.Steady.{EndsOpen, Extends, list_extends, list_stops, nothing_extends, open_trailing}
-use Rattle.tk_lines.proofs.Steady.{section_kept, stops}
+use Rattle.tk_lines.proofs.EndedTexts.{AnswersSections, NotOpen, WholeTokens, not_open_checked, not_open_first}
+use Rattle.tk_lines.proofs.EndedTexts.{not_open_or, not_open_trailing, some_decided, whole_entries}
+use Rattle.tk_lines.proofs.LinesAndMoreBytes.{Lasts}
+use Rattle.tk_lines.proofs.DecidedStays.{decided_stays}
+use Rattle.tk_lines.proofs.SettledSections.{EndsOpen, Extends, list_extends, list_stops, nothing_extends, open_trailing}
+use Rattle.tk_lines.proofs.SettledSections.{section_kept, stops}
 use Rattle.tk_lists.specs.Tour.{entry_tests, entry_stop, entries_stop, tour_decided, tour_extent, tour_format}
 use Rattle.tk_lists.specs.Tour.{tour_section}
 

@@ -12,17 +12,18 @@ use Rattle.tk_words.specs.declared.keyword.Keyword.TheVariants as words
 use Rattle.tk_words.specs.declared.fault.TextKind.{TextKind}
 use Rattle.tk_words.specs.declared.fault.TextKind.TheVariants as kinds
 use Rattle.tk_lists.specs.declared.tour.TourWords.{TourWords}
-use Rattle.tk_lists.specs.declared.tour.TourForm.{TourForm}
+use Rattle.tk_lists.specs.declared.tour.TourHandler.{TourHandler}
 use Rattle.tk_words.specs.Lex.{Token, integer, after_word, trim}
 use Rattle.tk_words.specs.Words.{spells}
 use Rattle.tk_lines.specs.HeaderValue.{first_word}
 use Rattle.tk_lines.specs.Pieces.{Piece, After, Clean, Early, Trailing, Stop, Open, Fault, first_at, or_else, has}
 use Rattle.tk_words.specs.MinusOne.{is_ending, is_minus_one}
-use Rattle.tk_lines.specs.Reader.Forms.{whole, taken, a_header, a_section, Goes, EndsWithMinusOne, EndsAtEof, StopsAt}
+use Rattle.tk_lines.specs.Reader.Handlers.{whole, taken, a_header, a_section, Goes, EndsWithMinusOne, EndsAtEof}
+use Rattle.tk_lines.specs.Reader.Handlers.{StopsAt}
 use Rattle.tk_words.specs.Entry.{is_keyword, is_eof, in_range, number_tests, numbers_of, natural_or_zero}
 use Rattle.tk_lines.specs.Lists.{list_entries, trailing_stop, AreEntries}
 use Rattle.tk_lists.specs.Tour.{entry_stop, entries_stop, tour_header, tour_section, tour_format}
-use Rattle.tk_lists.specs.Reader.TourForm.{IsSeen, TourHolds, TourWants, IsNext, IsOut}
+use Rattle.tk_lists.specs.Reader.TourHandler.{IsSeen, TourHolds, TourWants, IsNext, IsOut}
 use Rattle.tk_lines.proofs.Pieces.PieceLookups.{has-append, has-kept, has-new, tokens_in-new, tokens_in-header}
 use Rattle.tk_lines.proofs.Pieces.PieceLookups.{tokens_in-none}
 use Rattle.tk_lists.proofs.Lists.{are_more, entries_all, entries_ended, fine_more, fine_none, numbers_more}
@@ -41,7 +42,7 @@ seen_more w w' before ps h name kind dimension = record {
   dimension = has-append words.Dimension before ps ∙ rw h.dimension dimension;
 }
 
-module _ (s s' : TourForm) (before : List Piece) (word : Keyword) (v : List ℕ) (n : ℕ) (h : TourHolds s before)
+module _ (s s' : TourHandler) (before : List Piece) (word : Keyword) (v : List ℕ) (n : ℕ) (h : TourHolds s before)
     (cities : s'.cities.items ≡ s.cities.items) where
   -- a header that is no section, with the words that it leaves
   holds_header : (s.seen.name || has words.Name (a_header word v n)) ≡ s'.seen.name
@@ -58,7 +59,7 @@ module _ (s s' : TourForm) (before : List Piece) (word : Keyword) (v : List ℕ)
   }
 
 -- a header is taken
-module _ (s : TourForm) (b : Bool) (before : List Piece) (v : List ℕ) (n : ℕ) (h : TourHolds s before)
+module _ (s : TourHandler) (b : Bool) (before : List Piece) (v : List ℕ) (n : ℕ) (h : TourHolds s before)
     (new : b ≡ true) where
   pub name_ok : s.seen.name ≡ false → length (trim (after_word v)) ≤ 1024 →
       TourHolds (record s { seen = record s.seen { name = b } }) (before ++ a_header words.Name v n)
@@ -87,13 +88,13 @@ module _ (s : TourForm) (b : Bool) (before : List Piece) (v : List ℕ) (n : ℕ
     rw (h.seen.dimension ∙ old) fine,
   )
 
-pub comment_ok : (s : TourForm) (before : List Piece) (v : List ℕ) (n : ℕ) → TourHolds s before →
+pub comment_ok : (s : TourHandler) (before : List Piece) (v : List ℕ) (n : ℕ) → TourHolds s before →
     TourHolds s (before ++ a_header words.Comment v n)
 comment_ok s before v n h =
     holds_header s s before words.Comment v n h refl (or-false s.seen.name) (or-false s.seen.kind)
     (or-false s.seen.dimension) refl refl
 
-pub dimension_err : (s : TourForm) (before : List Piece) (v : List ℕ) (n : ℕ) (k : TextKind) → TourHolds s before →
+pub dimension_err : (s : TourHandler) (before : List Piece) (v : List ℕ) (n : ℕ) (k : TextKind) → TourHolds s before →
     s.seen.dimension ≡ false → first_at n (number_tests 1 ENTRY_LIMIT (first_word v)) ≡ Some (Fault n k) →
     first_at n (tour_header before words.Dimension v) ≡ Some (Fault n k)
 dimension_err s before v n k h old stop = rw (h.seen.dimension ∙ old) stop
@@ -147,8 +148,8 @@ module _ (before : List Piece) (n : ℕ) (fresh : has words.TourSection before �
 
 -- ---- what the form wants
 
-module _ (s : TourForm) (before : List Piece) (n : ℕ) where
-  pub wants_none : (s' : TourForm) → TourHolds s before → s.seen.section ≡ false
+module _ (s : TourHandler) (before : List Piece) (n : ℕ) where
+  pub wants_none : (s' : TourHandler) → TourHolds s before → s.seen.section ≡ false
       → s'.seen ≡ record s.seen { section = true } → s'.cities.items ≡ s.cities.items
       → TourWants s' before words.TourSection n [] × Goes tour_format before words.TourSection n []
   unfolding list_entries
@@ -169,7 +170,7 @@ module _ (s : TourForm) (before : List Piece) (n : ℕ) where
         tour_goes before n fresh [] tt (fine_none 0),
       )
 
-module _ (s s' : TourForm) (before : List Piece) (word : Keyword) (n : ℕ) (toks : List Token)
+module _ (s s' : TourHandler) (before : List Piece) (word : Keyword) (n : ℕ) (toks : List Token)
     (w : TourWants s before word n toks) (seen : s'.seen ≡ s.seen) where
   still_seen : IsSeen s'.seen before
   still_seen = subst (λ (x : TourWords). IsSeen x before) (sym seen) w.seen

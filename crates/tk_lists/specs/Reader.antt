@@ -1,3 +1,3 @@
 pub mod SolutionReader
 pub mod SolutionSteps
-pub mod TourForm
+pub mod TourHandler

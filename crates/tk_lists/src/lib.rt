@@ -4,7 +4,7 @@
 mod laws;
 mod route_head;
 mod solution;
-mod solution_form;
+mod solution_handler;
 mod solution_reader;
 mod texts;
 mod tour;

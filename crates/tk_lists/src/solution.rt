@@ -8,7 +8,7 @@ use crate::solution_reader::{LinePlace, SolutionReader};
 use crate::texts::SolText;
 use std::alloc::Global;
 use tk_problem::TEXT_LIMIT;
-use tk_words::{Keyword, Source, Step, TextFault, TextKind, TextReader, read_text};
+use tk_words::{FeedResult, Keyword, Source, TextFault, TextKind, TextReader, read_text};
 
 impl SolutionReader {
     /// A fault on the current line.
@@ -63,13 +63,13 @@ impl TextReader for SolutionReader {
 
     ghost complete = { λ _. Unit {0} };
 
-    ghost too_long_told = { λ line. refl };
+    ghost too_long_reported = { λ line. refl };
 
     ghost waits = { λ reader before waits. waits.undecided };
 
-    fn feed(&mut self, bytes: &[u8]) -> Result<Step, TextFault> {
+    fn feed(&mut self, bytes: &[u8]) -> Result<FeedResult, TextFault> {
         self.feed_byte(bytes[0])?;
-        Ok(Step::Taken(1))
+        Ok(FeedResult::Taken(1))
     }
 
     fn finish(self) -> Result<SolText, TextFault> {

@@ -2,7 +2,7 @@
 ghost use Rattle.std.specs.Prelude.{◌≡◌, ◌≤◌, true, false, List, [], ◌∷◌, length, Some, IfOk, IfErr};
 ghost use Rattle.tk_words.specs.Lex.{Token};
 ghost use Rattle.tk_lines.specs.Pieces.{Fault};
-ghost use Rattle.tk_lines.specs.Reader.Forms.{IsToldWord};
+ghost use Rattle.tk_lines.specs.Reader.Handlers.{IsReportedWord};
 ghost use Rattle.tk_lists.specs.Solution.{SolutionLine, Other, has_cost, may_be_word, solid_line, line_stop};
 ghost use Rattle.tk_lists.specs.Reader.SolutionReader.{Keeps, IsAtPlace, IsHead, IsWordOf, IsFront, IsLineWord};
 ghost use Rattle.tk_lists.specs.Reader.SolutionReader.{IsRoute};
@@ -12,9 +12,9 @@ ghost use Rattle.tk_lists.specs.declared.solution_reader.LinePlace.TheVariants a
 ghost use Rattle.tk_lists.specs.Reader.SolutionSteps.{EndsLine, RefusesLine, RefusesLineByte, TakesLineByte};
 
 use crate::route_head::{HeadPlace, HeadStep};
-use crate::solution_form::SolutionForm;
+use crate::solution_handler::SolutionHandler;
 use std::alloc::Global;
-use tk_words::{Held, TextKind, blank, spelled, word_byte};
+use tk_words::{ByteBuffer, TextKind, blank, spelled, word_byte};
 
 /// The state of a reader within a line.
 #[derive(Clone, Copy)]
@@ -54,8 +54,8 @@ pub enum LineWord {
 pub struct SolutionReader {
     pub line: u64,
     pub place: LinePlace,
-    pub held: Held<64>,
-    pub form: SolutionForm,
+    pub held: ByteBuffer<64>,
+    pub form: SolutionHandler,
 }
 
 /// Whether these bytes spell the beginning of a text, which is in capitals. Their own case does not matter.
@@ -95,8 +95,8 @@ impl SolutionReader {
         SolutionReader {
             line: 1,
             place: LinePlace::Start,
-            held: Held::new(),
-            form: SolutionForm::new(alloc),
+            held: ByteBuffer::new(),
+            form: SolutionHandler::new(alloc),
         }
     }
 
@@ -116,7 +116,7 @@ impl SolutionReader {
         ensures ok { (before : List SolutionLine) → Keeps self.old.form before []
             → IfOk result (λ _. Went before byte (λ bs whole. Other) self.new) }
         ensures err { (before : List SolutionLine) → Keeps self.old.form before []
-            → IfErr result (IsToldWord (LineStopsAt before self.old.line byte (λ bs whole. Other))) }
+            → IfErr result (IsReportedWord (LineStopsAt before self.old.line byte (λ bs whole. Other))) }
     {
         self.form.skip()?;
         self.place = LinePlace::Skip;
@@ -130,7 +130,7 @@ impl SolutionReader {
         ensures ok { (before : List SolutionLine) → Keeps self.old.form before [] → IsRoute before []
             → IfOk result (λ _. Went before byte (line_from self.old.line [] [] (places.Head place)) self.new) }
         ensures err { (before : List SolutionLine) → IsRoute before []
-            → IfErr result (IsToldWord (LineStopsAt before self.old.line byte
+            → IfErr result (IsReportedWord (LineStopsAt before self.old.line byte
             (line_from self.old.line [] [] (places.Head place)))) }
     {
         self.place = match place.step(byte) {
@@ -176,7 +176,7 @@ impl SolutionReader {
         ensures ok { (before : List SolutionLine) → Keeps self.old.form before []
             → IfOk result (λ _. Went before byte (line_from self.old.line self.old.held [] places.Word) self.new) }
         ensures err { (before : List SolutionLine) → Keeps self.old.form before []
-            → IfErr result (IsToldWord (LineStopsAt before self.old.line byte
+            → IfErr result (IsReportedWord (LineStopsAt before self.old.line byte
             (line_from self.old.line self.old.held [] places.Word))) }
     {
         if word_byte(byte) {
@@ -211,7 +211,7 @@ impl SolutionReader {
             self.new) }
         ensures err { (before : List SolutionLine) (toks : List Token)
             → IsAtPlace self.old.form before self.old.held self.old.line toks places.Customer
-            → IfErr result (IsToldWord (LineStopsAt before self.old.line byte
+            → IfErr result (IsReportedWord (LineStopsAt before self.old.line byte
             (line_from self.old.line self.old.held toks places.Customer))) }
     {
         if blank(byte) {
@@ -236,7 +236,7 @@ impl SolutionReader {
             → IfOk result (λ _. Went before byte (line_from self.old.line self.old.held toks places.Digits) self.new) }
         ensures err { (before : List SolutionLine) (toks : List Token)
             → IsAtPlace self.old.form before self.old.held self.old.line toks places.Digits
-            → IfErr result (IsToldWord (LineStopsAt before self.old.line byte
+            → IfErr result (IsReportedWord (LineStopsAt before self.old.line byte
             (line_from self.old.line self.old.held toks places.Digits))) }
     {
         if blank(byte) {
@@ -304,7 +304,7 @@ impl SolutionReader {
         ensures ok { (before : List SolutionLine) → Keeps self.now.form before []
             → IfOk result (λ _. (solid_line self.now.line true self.now.held ≡ Other) × (has_cost before ≡ true)) }
         ensures err { (before : List SolutionLine) → Keeps self.now.form before []
-            → IfErr result (IsToldWord (λ k. line_stop before self.now.line true
+            → IfErr result (IsReportedWord (λ k. line_stop before self.now.line true
             (solid_line self.now.line true self.now.held) ≡ Some (Fault self.now.line k))) }
     {
         match word_of(self.held.as_slice()) {

@@ -2,17 +2,17 @@
 ghost use Rattle.std.specs.Prelude.{◌≡◌, ◌<◌, ℕ, true, false, List, [], length, Some, None, Ok, IfOk, IfErr};
 ghost use Rattle.tk_problem.specs.declared.limits.TheConstants.{ENTRY_LIMIT};
 ghost use Rattle.tk_words.specs.declared.fault.TextKind.TheVariants as kinds;
-ghost use Rattle.tk_lines.specs.declared.form.Taken.TheVariants as takens;
+ghost use Rattle.tk_lines.specs.declared.handler.Taken.TheVariants as takens;
 ghost use Rattle.tk_words.specs.declared.keyword.Keyword.TheVariants as words;
 ghost use Rattle.tk_words.specs.Reading.{IsReading};
-ghost use Rattle.tk_lines.specs.Reader.Forms.{IsToldWord};
+ghost use Rattle.tk_lines.specs.Reader.Handlers.{IsReportedWord};
 ghost use Rattle.tk_lists.specs.Tour.{as_tour, tour_header, tour_texts};
-ghost use Rattle.tk_lists.specs.Reader.TourForm.{TourHolds, IsNext, IsOut, tour_promise};
-ghost use Rattle.tk_lines.specs.Reader.FormSteps.{RefusesHeader, TakesHeader};
+ghost use Rattle.tk_lists.specs.Reader.TourHandler.{TourHolds, IsNext, IsOut, tour_promise};
+ghost use Rattle.tk_lines.specs.Reader.HandlerSteps.{RefusesHeader, TakesHeader};
 
 use crate::texts::TourText;
 use std::alloc::Global;
-use tk_lines::{Form, PieceReader, Scan, Taken};
+use tk_lines::{Handler, PieceReader, Taken, ValueScanner};
 use tk_problem::ENTRY_LIMIT;
 use tk_words::{Entry, Keyword, Lexeme, Source, TextFault, TextKind, limited, read_text};
 
@@ -27,7 +27,7 @@ pub struct TourWords {
 
 /// The contents of a tour text that have been read.
 #[derive(Drop)]
-pub struct TourForm {
+pub struct TourHandler {
     pub seen: TourWords,
     pub cities: Vec<u32>,
 }
@@ -44,12 +44,12 @@ fn once(seen: &mut bool) -> Result<(), TextKind>
     Ok(())
 }
 
-impl TourForm {
+impl TourHandler {
     /// No header has been read.
     pub fn new(alloc: Global) -> Self
         ensures { TourHolds result [] }
     {
-        TourForm {
+        TourHandler {
             seen: TourWords {
                 name: false,
                 kind: false,
@@ -60,7 +60,7 @@ impl TourForm {
         }
     }
 
-    fn name(&mut self, value: &Scan) -> Result<(), TextKind>
+    fn name(&mut self, value: &ValueScanner) -> Result<(), TextKind>
         ensures ok { TakesHeader TourHolds tour_header words.Name value.now self.old self.new result }
         ensures err { RefusesHeader TourHolds tour_header words.Name value.now self.old result }
     {
@@ -70,7 +70,7 @@ impl TourForm {
         once(&mut self.seen.name)
     }
 
-    fn kind(&mut self, value: &Scan) -> Result<(), TextKind>
+    fn kind(&mut self, value: &ValueScanner) -> Result<(), TextKind>
         ensures ok { TakesHeader TourHolds tour_header words.Type value.now self.old self.new result }
         ensures err { RefusesHeader TourHolds tour_header words.Type value.now self.old result }
     {
@@ -81,7 +81,7 @@ impl TourForm {
         Err(TextKind::Unsupported)
     }
 
-    fn dimension(&mut self, value: &Scan) -> Result<(), TextKind>
+    fn dimension(&mut self, value: &ValueScanner) -> Result<(), TextKind>
         ensures ok { TakesHeader TourHolds tour_header words.Dimension value.now self.old self.new result }
         ensures err { RefusesHeader TourHolds tour_header words.Dimension value.now self.old result }
     {
@@ -95,7 +95,7 @@ impl TourForm {
         ensures seen { self.new.seen ≡ self.old.seen }
         ensures ok { IfOk result (λ t. (t ≡ takens.More) × (length self.old.cities.items < ENTRY_LIMIT)
             × IsNext number self.old.cities.items self.new.cities.items) }
-        ensures err { IfErr result (IsToldWord (λ k. (k ≡ kinds.OutOfLimit)
+        ensures err { IfErr result (IsReportedWord (λ k. (k ≡ kinds.OutOfLimit)
             × IsOut number (length self.old.cities.items))) }
     {
         let Some(city) = limited(number, 0, u32::MAX) else {
@@ -111,7 +111,7 @@ impl TourForm {
     }
 }
 
-impl Form for TourForm {
+impl Handler for TourHandler {
     type Out = TourText;
 
     ghost Value = { List ℕ };
@@ -120,7 +120,7 @@ impl Form for TourForm {
 
     ghost promise = { tour_promise };
 
-    fn header(&mut self, word: Keyword, value: &Scan) -> Result<(), TextKind> {
+    fn header(&mut self, word: Keyword, value: &ValueScanner) -> Result<(), TextKind> {
         match word {
             Keyword::Name => self.name(value),
             Keyword::Comment => Ok(()),
@@ -181,5 +181,5 @@ impl Form for TourForm {
 pub fn read_tour<R: Source>(alloc: Global, source: &mut R) -> Result<TourText, TextFault>
     ensures reads { IsReading R.Source tour_texts as_tour source.old source.new result }
 {
-    read_text(source, PieceReader::new(TourForm::new(alloc)))
+    read_text(source, PieceReader::new(TourHandler::new(alloc)))
 }

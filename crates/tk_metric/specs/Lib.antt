@@ -7,13 +7,13 @@ pub use Rattle.tk_distance.specs.PlaneOf
 pub use Rattle.tk_distance.specs.Roots
 pub use Rattle.tk_distance.specs.Searching
 pub use Rattle.tk_distance.specs.Tables
-pub use Rattle.tk_distance.specs.Turned
+pub use Rattle.tk_distance.specs.SwappedAxes
 pub use Rattle.tk_distance.specs.Weights
 pub use Rattle.tk_distance.specs.WholeCities
 pub use Rattle.tk_near.specs.Keeping
 pub use Rattle.tk_near.specs.Kept
-pub use Rattle.tk_near.specs.Left
+pub use Rattle.tk_near.specs.Unvisited
 pub use Rattle.tk_near.specs.Near
-pub use Rattle.tk_near.specs.Placed
+pub use Rattle.tk_near.specs.CityPoint
 pub use Rattle.tk_near.specs.Sweep
 pub use Rattle.tk_near.specs.Tree

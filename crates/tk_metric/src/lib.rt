@@ -4,8 +4,9 @@
 #![tactic(auto)]
 
 pub use tk_distance::{
-    BothAxes, Euclid, Metric, Planar, Planes, Sub, Table, Triangle, Turned, root, root_up,
+    BothAxes, Euclid, Metric, Planar, Planes, Sub, SwappedAxes, Table, Triangle, root, root_up,
 };
 pub use tk_near::{
-    Found, Left, Near, near_among, near_lists, near_lists_agree, near_scan, near_sweep, near_tree,
+    CityHint, Near, Unvisited, near_among, near_lists, near_lists_agree, near_scan, near_sweep,
+    near_tree,
 };

@@ -1,7 +1,7 @@
-pub mod Euclids
+pub mod EuclidTables
 pub mod InPlane
-pub mod Inserting
-pub mod Keeping
-pub mod Laws
-pub mod Placing
-pub mod Tables
+pub mod SortedInsertion
+pub mod KeptCandidates
+pub mod DeterminedLists
+pub mod CandidateInserted
+pub mod FlatLists

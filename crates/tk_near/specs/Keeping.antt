@@ -13,12 +13,12 @@ abbrev pub candidate : (ℕ → ℕ → ℕ) → ℕ → ℕ → Candidate
 candidate dist c b = record { distance = dist c b; city = b }
 
 -- an empty slot, which comes after each candidate
-abbrev pub open_place : Candidate
-open_place = record { distance = 4294967295; city = 4294967295 }
+abbrev pub empty_slot : Candidate
+empty_slot = record { distance = 4294967295; city = 4294967295 }
 
 -- the slots from i on are empty
 abbrev pub AreOpenFrom : ℕ → List Candidate → Type 0
-AreOpenFrom i kept = (j : ℕ) (d : Candidate) → i ≤ j → j < length kept → slice_index_or kept j d ≡ open_place
+AreOpenFrom i kept = (j : ℕ) (d : Candidate) → i ≤ j → j < length kept → slice_index_or kept j d ≡ empty_slot
 
 abbrev pub cities_kept : List Candidate → List ℕ
 cities_kept = map (λ x. x.city)
@@ -55,7 +55,7 @@ pub record KeepsFirst (dist : ℕ → ℕ → ℕ) (c k m : ℕ) (Seen : ℕ →
   pub rising : Rising rank whole
   pub each : All (λ x. (x.distance ≡ dist c x.city) × Seen x.city) whole
   pub holds : (b : ℕ) → Seen b → Contains whole (candidate dist c b)
-  pub first : kept ≡ take k (whole ++ replicate k open_place)
+  pub first : kept ≡ take k (whole ++ replicate k empty_slot)
 
 -- k entries for each of n cities; those of the cities that satisfy Done are their near lists among the cities 1 to m
 pub record AreFilledAmong (dist : ℕ → ℕ → ℕ) (n m k : ℕ) (Done : ℕ → Type 0) (entries : List ℕ) : Type 0 where

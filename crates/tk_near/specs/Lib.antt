@@ -1,8 +1,8 @@
 pub mod Keeping
 pub mod Kept
-pub mod Left
+pub mod Unvisited
 pub mod ListLengths
 pub mod Near
-pub mod Placed
+pub mod CityPoint
 pub mod Sweep
 pub mod Tree

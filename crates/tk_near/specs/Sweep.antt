@@ -4,15 +4,15 @@ use Rattle.std.specs.Int.RustNames.{unsigned_abs}
 use Rattle.tk_distance.specs.Distance.{reach}
 use Rattle.tk_problem.specs.declared.point.Point.{Point}
 use Rattle.tk_near.specs.declared.candidates.Candidate.{Candidate}
-use Rattle.tk_near.specs.declared.plane.placed.Placed.{Placed}
-use Rattle.tk_near.specs.Keeping.{KeepsFirst, open_place, rank}
-use Rattle.tk_near.specs.Placed.{IsAt, IsRow, placed_city, nowhere}
+use Rattle.tk_near.specs.declared.plane.city_point.CityPoint.{CityPoint}
+use Rattle.tk_near.specs.Keeping.{KeepsFirst, empty_slot, rank}
+use Rattle.tk_near.specs.CityPoint.{IsAt, IsRow, placed_city, nowhere}
 
-abbrev pub point_at : List Placed → ℕ → Point
+abbrev pub point_at : List CityPoint → ℕ → Point
 point_at row q = (slice_index_or row q nowhere).place
 
 -- each city once, with its coordinates, in x order
-pub record IsXOrder (n : ℕ) (place_of : ℕ → Point) (row : List Placed) : Type 0 where
+pub record IsXOrder (n : ℕ) (place_of : ℕ → Point) (row : List CityPoint) : Type 0 where
   pub cities : IsRow n place_of row
   pub rising : (i j : ℕ) → i ≤ j → j < length row → (point_at row i).x ≤ℤ (point_at row j).x
 
@@ -23,7 +23,7 @@ pub record IsFloor (dist : ℕ → ℕ → ℕ) (place_of : ℕ → Point) (floo
   pub bounds : (a b : ℕ) → floor (unsigned_abs ((place_of a).x -ℤ (place_of b).x)) ≤ dist a b
 
 -- the nearest k of the cities at the positions from low to high - 1, except the one at p
-pub record IsSwept (dist : ℕ → ℕ → ℕ) (row : List Placed) (p low high k : ℕ) (kept : List Candidate) : Type 0 where
+pub record IsSwept (dist : ℕ → ℕ → ℕ) (row : List CityPoint) (p low high k : ℕ) (kept : List Candidate) : Type 0 where
   pub low_end : low ≤ p
   pub high_end : p < high
   pub within : high ≤ length row
@@ -32,4 +32,4 @@ pub record IsSwept (dist : ℕ → ℕ → ℕ) (row : List Placed) (p low high 
 
 -- each candidate at this distance or beyond comes after the last one kept
 abbrev pub IsBelow : ℕ → List Candidate → Type 0
-IsBelow bound kept = rank (slice_index_or kept (length kept - 1) open_place) < bound * 4294967296
+IsBelow bound kept = rank (slice_index_or kept (length kept - 1) empty_slot) < bound * 4294967296

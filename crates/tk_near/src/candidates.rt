@@ -14,7 +14,7 @@ pub struct Candidate {
 }
 
 /// An empty slot, which compares greater than every candidate.
-pub const OPEN: Candidate = Candidate {
+pub const EMPTY: Candidate = Candidate {
     distance: u32::MAX,
     city: u32::MAX,
 };

@@ -5,7 +5,7 @@ ghost use Rattle.tk_distance.specs.Cities.{IsCity};
 ghost use Rattle.tk_near.specs.Near.{IsNear, IsOther, AreNearLists, AreNearListsAmong, near_of};
 ghost use Rattle.tk_near.specs.Keeping.{AreFilled, AreFilledAmong, cities_kept};
 
-use crate::candidates::{Candidate, OPEN, keep, measure, write_cities};
+use crate::candidates::{Candidate, EMPTY, keep, measure, write_cities};
 use std::alloc::{AllocError, Global};
 use std::marker::Model;
 use tk_distance::Metric;
@@ -99,7 +99,7 @@ fn scan_city<M: Metric>(m: &M, among: u32, c: u32, kept: &mut [Candidate])
     ensures size { length kept.new ≡ length kept.old }
     ensures near { IsNear (M.distance m.now) among (length kept.old) c (cities_kept kept.new) }
 {
-    kept.fill(OPEN);
+    kept.fill(EMPTY);
     for b in 1..among + 1 {
         if b != c {
             keep(kept, measure(m, c, b));
@@ -158,7 +158,7 @@ pub fn near_among<M: Metric>(alloc: Global, m: &M, among: u32, k: u32) -> Result
     requires high { k < among }
     ensures { IfOk result (AreNearListsAmong (M.distance m.now) (M.size_of m.now) among k) }
 {
-    let mut kept = vec![in alloc; OPEN; k as usize]?;
+    let mut kept = vec![in alloc; EMPTY; k as usize]?;
     let mut entries = room_for(alloc, m, k)?;
     fill_by_scan(m, among, &mut kept, &mut entries);
     Ok(Near::from_filled_among(m, among, k, entries))

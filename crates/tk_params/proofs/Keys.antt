@@ -14,7 +14,7 @@ use Rattle.tk_params.specs.declared.key.Key.{Key}
 use Rattle.tk_params.specs.declared.key.Key.TheVariants as keys
 use Rattle.tk_params.specs.Keys.{all_keys, key_code}
 use Rattle.tk_params.specs.Values.{Settings, Value, has_key, same_key}
-use Rattle.tk_params.specs.Asked.{HasEachKeyOnce, ignored_keys, is_ignored}
+use Rattle.tk_params.specs.Requested.{HasEachKeyOnce, ignored_keys, is_ignored}
 
 same_key_laws : IsEquivalence same_key
 same_key_laws = on_equiv key_code nat_eq_equiv

@@ -1,9 +1,9 @@
-pub mod Feeds
+pub mod ReaderBytes
 pub mod Keys
 pub mod Limits
-pub mod Looks
-pub mod Steps
+pub mod SettingLookups
+pub mod LineEnds
 pub mod TextLaws
-pub mod Told
+pub mod LineFaults
 pub mod WordLengths
 pub mod Words

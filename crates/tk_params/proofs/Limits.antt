@@ -16,9 +16,9 @@ use Rattle.tk_params.specs.Keys.{all_keys, key_code}
 use Rattle.tk_params.proofs.Keys.{ignored_few}
 use Rattle.tk_params.specs.Values.{File, Number, Way, Switch, Ignored, Settings, Value, construction_of, file_of}
 use Rattle.tk_params.specs.Values.{greatest, has_dollar, least, look, same_key, switch_of, setting_value}
-use Rattle.tk_params.specs.Asked.{HasEachKeyOnce, AreSettings, AreWithinLimits, IsFileName, IsSetting, IsInLimits}
-use Rattle.tk_params.specs.Asked.{asked_of}
-use Rattle.tk_params.specs.Asked.{file_in, asked_number}
+use Rattle.tk_params.specs.Requested.{HasEachKeyOnce, AreSettings, AreWithinLimits, IsFileName, IsSetting, IsInLimits}
+use Rattle.tk_params.specs.Requested.{requested_of}
+use Rattle.tk_params.specs.Requested.{file_in, asked_number}
 
 -- ---- a key's value
 
@@ -105,31 +105,33 @@ number_limits : (key : Key) (o : Option Value) → IfSome o (IsSetting key) →
 number_limits key (Some (Number n)) h = h
 number_limits key _ h = tt
 
-or_default : (low high d : ℕ) (o : Option ℕ) → IfSome o (IsInLimits low high) → low ≤ d → d ≤ high →
-    IsInLimits low high (unwrap_or o d)
-or_default low high d None h a b = record { least = a; greatest = b }
-or_default low high d (Some n) h a b = h
+or_default : (low high d : ℕ) (o : Option ℕ) → IfSome o (IsInLimits low high) → (low ≤ d) × (d ≤ high) →
+    (low ≤ unwrap_or o d) × (unwrap_or o d ≤ high)
+or_default low high d None h default = default
+or_default low high d (Some n) h default = (h.least, h.greatest)
 
-module _ (ss : Settings) (sound : AreSettings ss) (apart : HasEachKeyOnce ss) where
+module _ (ss : Settings) (sound : AreSettings ss) where
   file_at : (key : Key) → IfSome (file_in (look key ss)) IsFileName
   file_at key = file_limits key (look key ss) (look_setting key ss sound)
 
-  number_at : (key : Key) → IfSome (asked_number (look key ss)) (IsInLimits (least key) (greatest key))
+  pub number_at : (key : Key) → IfSome (asked_number (look key ss)) (IsInLimits (least key) (greatest key))
   number_at key = number_limits key (look key ss) (look_setting key ss sound)
 
-  pub asked_within : (problem : List ℕ) → file_in (look keys.ProblemFile ss) ≡ Some problem →
-      AreWithinLimits (asked_of problem ss)
-  unfolding asked_of
-  asked_within problem e =
+  -- a number with its default
+  pub number_or : (key : Key) (d n : ℕ) {o : Option ℕ} → n ≡ unwrap_or o d → o ≡ asked_number (look key ss) →
+      (least key ≤ d) × (d ≤ greatest key) → (least key ≤ n) × (n ≤ greatest key)
+  number_or key d n is asked default =
+      subst (λ (m : ℕ). (least key ≤ m) × (m ≤ greatest key)) (sym (is ∙ ap (λ p. unwrap_or p d) asked))
+      (or_default (least key) (greatest key) d _ (number_at key) default)
+
+  pub asked_within : (problem : List ℕ) → HasEachKeyOnce ss → file_in (look keys.ProblemFile ss) ≡ Some problem →
+      AreWithinLimits (requested_of problem ss)
+  unfolding requested_of
+  asked_within problem apart e =
       record {
         problem_file = subst (λ o. IfSome o IsFileName) e (file_at keys.ProblemFile);
         tour_file = file_at keys.TourFile;
         solution_file = file_at keys.SolutionFile;
         initial_tour_file = file_at keys.InitialTourFile;
-        runs = or_default 1 10000 10 _ (number_at keys.Runs) (omega arith) (omega arith);
-        max_trials = number_at keys.MaxTrials;
-        seed = or_default 0 4294967295 1 _ (number_at keys.Seed) (omega arith) (omega arith);
-        max_candidates = or_default 1 CANDIDATE_LIMIT 5 _ (number_at keys.MaxCandidates) (omega arith) (omega arith);
-        or_segment = or_default 1 3 3 _ (number_at keys.OrSegment) (omega arith) (omega arith);
         few_ignored = ignored_few ss apart;
       }

@@ -7,10 +7,10 @@ use Rattle.std.proofs.lemmas.Bool.{ltb-true, and_parts, and_from}
 use Rattle.std.proofs.lemmas.List.{length-append, length-take, take-append-drop}
 use Rattle.tk_words.specs.Lex.{Line, is_blank, is_empty, front, behind, lines}
 use Rattle.tk_words.specs.TextLaws.{HasAnswers, StaysDecided}
-use Rattle.tk_words.proofs.Bools.{or_true}
-use Rattle.tk_lines.proofs.Answered.{AreWhole, whole_lines}
-use Rattle.tk_lines.proofs.Growing.{a_line, lines_grow}
-use Rattle.tk_params.proofs.Steps.{Goes, Before, Within, Behind, goes, judge_line, judge_none, over}
+use Rattle.tk_words.proofs.BoolLaws.{or_true}
+use Rattle.tk_lines.proofs.EndedTexts.{AreWhole, whole_lines}
+use Rattle.tk_lines.proofs.LinesAndMoreBytes.{a_line, lines_grow}
+use Rattle.tk_params.proofs.LineEnds.{Goes, Before, Within, Behind, goes, judge_line, judge_none, over}
 use Rattle.tk_params.specs.declared.fault.ParamKind.TheVariants as kinds
 use Rattle.tk_params.specs.Params.{Answer, after, answer_at_end, behind_word, counted, is_end, spells_eof, judge_params}
 use Rattle.tk_params.specs.Params.{line_limit}

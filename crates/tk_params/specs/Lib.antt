@@ -1,4 +1,5 @@
-pub mod Asked
+pub mod Requested
+pub mod SearchOf
 pub mod Entries
 pub mod Keys
 pub mod Params

@@ -8,7 +8,7 @@ use Rattle.tk_words.specs.Words.{spells}
 use Rattle.tk_params.specs.declared.fault.ParamFault.{ParamFault}
 use Rattle.tk_params.specs.declared.fault.ParamKind.{ParamKind}
 use Rattle.tk_params.specs.declared.fault.ParamKind.TheVariants as kinds
-use Rattle.tk_params.specs.Asked.{ParamsAre, asked}
+use Rattle.tk_params.specs.Requested.{ParamsAre, requested}
 use Rattle.tk_params.specs.Entries.{Entry, entry_of}
 use Rattle.tk_params.specs.Values.{Settings, Meaning, Faulty, settings_of, means}
 
@@ -43,7 +43,7 @@ abbrev pub counted : Line → ℕ
 counted l = length l.bytes - (if is_end l then length (behind_word l.bytes) else 0)
 
 abbrev pub answer_at_end : ℕ → Settings → Answer
-answer_at_end n before = ok_or (asked before) (record { line = n; kind = kinds.MissingProblem })
+answer_at_end n before = ok_or (requested before) (record { line = n; kind = kinds.MissingProblem })
 
 abbrev pub after : ℕ → Meaning → Option Answer → Option Answer
 after n (Faulty kind) rest = Some (Err (record { line = n; kind = kind }))

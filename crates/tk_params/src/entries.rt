@@ -1,7 +1,7 @@
 //! Keys with their settings, in a map that preserves their order.
 ghost use Rattle.std.specs.Prelude.{◌≡◌, ◌++◌, ◌∷◌, [], false, OnErr, OnOk, option_map};
 ghost use Rattle.std.specs.String.{string_bytes};
-ghost use Rattle.tk_params.specs.Asked.{file_in, asked_number, switch_in, way_in};
+ghost use Rattle.tk_params.specs.Requested.{file_in, asked_number, switch_in, way_in};
 ghost use Rattle.tk_params.specs.Reader.Stored.{LosesOnly, settings_in, value_is};
 ghost use Rattle.tk_params.specs.Values;
 

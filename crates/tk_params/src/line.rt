@@ -1,7 +1,7 @@
 //! Reads a line of a parameter file.
 ghost use Rattle.std.specs.Prelude.{◌≡◌, ◌≤◌, length, take, drop, OnErr, OnOk, IfErr};
 ghost use Rattle.tk_words.specs.Lex.{behind, front, is_blank, is_word_byte, trim_end};
-ghost use Rattle.tk_params.specs.Reader.Lines.{HasTakenLine, IsToldKind};
+ghost use Rattle.tk_params.specs.Reader.Lines.{HasTakenLine, IsReportedKind};
 ghost use Rattle.tk_params.specs.Entries;
 ghost use Rattle.tk_params.specs.Values;
 
@@ -81,7 +81,7 @@ pub fn take_key(
     value: &[u8],
 ) -> Result<(), ParamKind>
     ensures ok { OnOk result (HasTakenLine settings.old settings.new (Values.key_means settings.old key value.now)) }
-    ensures err { IfErr result (IsToldKind (λ k. Values.key_means settings.old key value.now ≡ Values.Faulty k)) }
+    ensures err { IfErr result (IsReportedKind (λ k. Values.key_means settings.old key value.now ≡ Values.Faulty k)) }
     ensures kept { OnErr result (settings.new ≡ settings.old) }
 {
     if settings.has(key) {
@@ -107,7 +107,7 @@ fn take_words(
 ) -> Result<(), ParamKind>
     ensures ok { OnOk result (HasTakenLine settings.old settings.new
         (Values.means settings.old (Entries.word_entry word.now rest.now))) }
-    ensures err { IfErr result (IsToldKind (λ k. Values.means settings.old (Entries.word_entry word.now rest.now)
+    ensures err { IfErr result (IsReportedKind (λ k. Values.means settings.old (Entries.word_entry word.now rest.now)
         ≡ Values.Faulty k)) }
 {
     if word.len() > KEY_LIMIT {
@@ -130,7 +130,7 @@ fn take_words(
 #[tactic(auto, unfolding(crate::specs::Entries::entry_of))]
 pub fn take_line(alloc: Global, settings: &mut Settings, line: &[u8]) -> Result<(), ParamKind>
     ensures ok { OnOk result (HasTakenLine settings.old settings.new (Values.line_means settings.old line.now)) }
-    ensures err { IfErr result (IsToldKind (λ k. Values.line_means settings.old line.now ≡ Values.Faulty k)) }
+    ensures err { IfErr result (IsReportedKind (λ k. Values.line_means settings.old line.now ≡ Values.Faulty k)) }
 {
     if line.is_empty() {
         return Ok(());

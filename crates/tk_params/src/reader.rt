@@ -3,7 +3,7 @@ ghost use Rattle.std.specs.Prelude.{◌≡◌, ◌≢◌, ◌≤◌, ◌^◌, �
 ghost use Rattle.std.specs.Prelude.{OnOk};
 ghost use Rattle.tk_words.specs.Lex.{behind, is_blank, is_word_byte};
 ghost use Rattle.tk_words.specs.Reading.{IsReading};
-ghost use Rattle.tk_params.specs.Asked.{ParamsAre};
+ghost use Rattle.tk_params.specs.Requested.{ParamsAre};
 ghost use Rattle.tk_params.specs.Reader.Places.{Feeds, HasReadByte, NamesProblem, TakesLine, ParamsWait, params_in};
 ghost use Rattle.tk_params.specs.Params.{answer_at_end, spells_eof, params_texts};
 
@@ -13,7 +13,7 @@ use crate::line::take_line;
 use crate::params::Params;
 use crate::settings::Settings;
 use std::alloc::{AllocError, Global};
-use tk_words::{Source, Step, TextReader, blank, read_text, spelled, word_byte};
+use tk_words::{FeedResult, Source, TextReader, blank, read_text, spelled, word_byte};
 
 /// Maximum number of bytes of a line.
 const LINE_LIMIT: u32 = 4096;
@@ -83,7 +83,7 @@ impl ParamReader {
     }
 
     /// Takes the end of a line.
-    fn end_line(&mut self) -> Result<Step, ParamFault>
+    fn end_line(&mut self) -> Result<FeedResult, ParamFault>
         requires room { self.old.line ≤ 2 ^ 63 }
         requires line { spells_eof self.old.held.items ≡ false }
         ensures { (before : List ℕ) → Feeds self.old before → HasReadByte self.new (before ++ 10 ∷ []) result }
@@ -92,11 +92,11 @@ impl ParamReader {
         self.line += 1;
         self.count = 0;
         self.held.clear();
-        Ok(Step::Taken(1))
+        Ok(FeedResult::Taken(1))
     }
 
     /// Takes a byte of a line.
-    fn keep(&mut self, byte: u8) -> Result<Step, ParamFault>
+    fn keep(&mut self, byte: u8) -> Result<FeedResult, ParamFault>
         requires line { byte ≢ 10 }
         requires end { spells_eof self.old.held.items ≡ true → is_word_byte byte ≡ true }
         requires known { (before : List ℕ) × Feeds self.old before }
@@ -108,7 +108,7 @@ impl ParamReader {
         match hold(&mut self.held, byte) {
             Ok(()) => {
                 self.count += 1;
-                Ok(Step::Taken(1))
+                Ok(FeedResult::Taken(1))
             }
             Err(_) => Err(self.fault(ParamKind::NoMemory)),
         }
@@ -118,7 +118,7 @@ impl ParamReader {
     ///
     /// # Errors
     /// The fault that the bytes up to this one contain, with its line.
-    fn feed_byte(&mut self, byte: u8) -> Result<Step, ParamFault>
+    fn feed_byte(&mut self, byte: u8) -> Result<FeedResult, ParamFault>
         requires room { self.old.line ≤ 2 ^ 63 }
         requires known { (before : List ℕ) × Feeds self.old before }
         ensures { (before : List ℕ) → Feeds self.old before → HasReadByte self.new (before ++ byte ∷ []) result }
@@ -127,7 +127,7 @@ impl ParamReader {
             if !self.settings.names(Key::ProblemFile) {
                 return Err(self.fault(ParamKind::MissingProblem));
             }
-            return Ok(Step::Done);
+            return Ok(FeedResult::Done);
         }
         if byte == b'\n' {
             return self.end_line();
@@ -163,11 +163,11 @@ impl TextReader for ParamReader {
 
     ghost complete = { NamesProblem };
 
-    ghost too_long_told = { λ line. refl };
+    ghost too_long_reported = { λ line. refl };
 
     ghost waits = { λ reader before waits. waits.undecided };
 
-    fn feed(&mut self, bytes: &[u8]) -> Result<Step, ParamFault> {
+    fn feed(&mut self, bytes: &[u8]) -> Result<FeedResult, ParamFault> {
         self.feed_byte(bytes[0])
     }
 

@@ -1,12 +1,14 @@
 //! The settings of the lines of a parameter file that have been read.
 ghost use Rattle.std.specs.Prelude.{◌≡◌, ◌++◌, ◌∷◌, [], false, OnErr, OnOk, is_some};
-ghost use Rattle.tk_params.specs.Asked.{HasEachKeyOnce, AreSettings, IsSetting, file_in, ignored_keys};
+ghost use Rattle.tk_params.specs.Requested.{HasEachKeyOnce, AreSettings, IsSetting, file_in, ignored_keys, searched};
 ghost use Rattle.tk_params.specs.Reader.Stored.{settings_in, value_is};
+ghost use Rattle.tk_params.specs.SearchOf.{search_is};
 ghost use Rattle.tk_params.specs.Values;
 
-use crate::entries::{Entries, append, stored};
+use crate::entries::{Entries, append, number, stored, switch, way};
 use crate::key::Key;
-use crate::value::Setting;
+use crate::search_settings::SearchSettings;
+use crate::value::{Construction, Setting};
 use indexmap::IndexMap;
 use std::alloc::{AllocError, Global};
 use std::marker::Model;
@@ -75,6 +77,21 @@ impl Settings {
                 self.ignored.pop();
                 Err(fault)
             }
+        }
+    }
+
+    /// The search that these keys request, with defaults for the other keys.
+    pub fn search(&self) -> SearchSettings
+        ensures { search_is result ≡ searched self.now }
+    {
+        SearchSettings {
+            runs: number(&self.entries, Key::Runs).unwrap_or(10),
+            max_trials: number(&self.entries, Key::MaxTrials),
+            seed: number(&self.entries, Key::Seed).unwrap_or(1),
+            max_candidates: number(&self.entries, Key::MaxCandidates).unwrap_or(5),
+            construction: way(&self.entries, Key::Construction).unwrap_or(Construction::Nearest),
+            final_sweep: switch(&self.entries, Key::FinalSweep).unwrap_or(false),
+            or_segment: number(&self.entries, Key::OrSegment).unwrap_or(3),
         }
     }
 

@@ -2,8 +2,8 @@
 ghost use Rattle.std.specs.Prelude.{◌≡◌, false, Some, None, IfOk, IfErr, option_map};
 ghost use Rattle.tk_params.specs.Keys;
 ghost use Rattle.tk_params.specs.declared.fault.ParamKind.TheVariants as kinds;
-ghost use Rattle.tk_params.specs.Asked.{is_ignored};
-ghost use Rattle.tk_params.specs.Reader.Lines.{IsToldKind};
+ghost use Rattle.tk_params.specs.Requested.{is_ignored};
+ghost use Rattle.tk_params.specs.Reader.Lines.{IsReportedKind};
 ghost use Rattle.tk_params.specs.Reader.Stored.{value_is};
 ghost use Rattle.tk_params.specs.Values;
 
@@ -84,7 +84,7 @@ fn switch_of(value: &[u8]) -> Option<bool>
 /// The value as a file name.
 fn file_of(alloc: Global, value: &[u8]) -> Result<Setting, ParamKind>
     ensures ok { IfOk result (λ s. Values.file_of value.now ≡ Some (value_is s)) }
-    ensures err { IfErr result (IsToldKind (λ k. (k ≡ kinds.BadValue) × (Values.file_of value.now ≡ None))) }
+    ensures err { IfErr result (IsReportedKind (λ k. (k ≡ kinds.BadValue) × (Values.file_of value.now ≡ None))) }
 {
     if value.is_empty() {
         return Err(ParamKind::BadValue);
@@ -128,7 +128,8 @@ fn plain_of(key: Key, value: &[u8]) -> Option<Setting>
 /// `BadValue` if the key does not allow this value, and `NoMemory` if memory runs out.
 pub fn setting_of(alloc: Global, key: Key, value: &[u8]) -> Result<Setting, ParamKind>
     ensures ok { IfOk result (λ s. Values.setting_value key value.now ≡ Some (value_is s)) }
-    ensures err { IfErr result (IsToldKind (λ k. (k ≡ kinds.BadValue) × (Values.setting_value key value.now ≡ None))) }
+    ensures err { IfErr result (IsReportedKind (λ k. (k ≡ kinds.BadValue) ×
+        (Values.setting_value key value.now ≡ None))) }
 {
     if key.is_file() {
         return file_of(alloc, value);

@@ -10,7 +10,7 @@ use Rattle.std.proofs.lemmas.Int.{ints, clamps, by_lt_z, to_z-of_z}
 use Rattle.std.proofs.lemmas.List.Elements.{Contains-append_left, Contains-append_right, All-append, All-weaker}
 use mir.Syntax.{w64}
 use mir.Val.{SFits, of_z, to_z}
-use Rattle.tk_picture.specs.Frames.{IsBound, IsLowest, IsHighest}
+use Rattle.tk_picture.specs.Extents.{IsBound, IsLowest, IsHighest}
 use Rattle.tk_picture.specs.Sides.{longer_side}
 
 All-one : (P : ℤ → Type 0) (z : ℤ) → P z → All P (z ∷ [])

@@ -9,7 +9,7 @@ use Rattle.tk_writers.proofs.Pieces.Putting.{Puts-then}
 use Rattle.tk_routes.specs.RouteVerdicts.{AreServedOnce}
 use Rattle.tk_routes.proofs.RouteSteps.{route_served}
 use Rattle.tk_picture.specs.Drawings.{each_filled}
-use Rattle.tk_picture.proofs.Paths.{filled_more}
+use Rattle.tk_picture.proofs.RoutePaths.{filled_more}
 
 -- the first n routes are put, and counted
 pub record ArePut {W X : Type 0} (sink : Ghosts W) (p q : Pen W) (f : ℕ → List ℕ → X) (put : X → List ℕ)

@@ -1,11 +1,11 @@
 pub mod Bounds
 pub mod EachRoute
-pub mod Legs
+pub mod RouteLegs
 pub mod NoMarkup
 pub mod PageLength
-pub mod Paths
+pub mod RoutePaths
 pub mod PictureLength
 pub mod PutLine
-pub mod PutNothing
-pub mod Shown
-pub mod Words
+pub mod EmptyPen
+pub mod ShownNames
+pub mod CityWords

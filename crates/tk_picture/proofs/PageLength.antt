@@ -14,11 +14,11 @@ use Rattle.tk_writers.specs.Written.{line, spaced_numbers}
 use Rattle.tk_distance.specs.PlaneOf.{city_place}
 use Rattle.tk_routes.specs.Cvrps.{instance_of}
 use Rattle.tk_routes.specs.Instance.{Instance, customer_count, node_of}
-use Rattle.tk_routes.proofs.Served.{AreServedOnce-short}
-use Rattle.tk_picture.specs.declared.frame.Frame.{Frame}
+use Rattle.tk_routes.proofs.ServedCustomers.{AreServedOnce-short}
+use Rattle.tk_picture.specs.declared.extent.Extent.{Extent}
 use Rattle.tk_picture.specs.declared.page.parts.Parts.{Parts}
-use Rattle.tk_picture.specs.declared.picture.Form.{Form}
-use Rattle.tk_picture.specs.declared.picture.Form.TheVariants as forms
+use Rattle.tk_picture.specs.declared.picture.OutputFormat.{OutputFormat}
+use Rattle.tk_picture.specs.declared.picture.OutputFormat.TheVariants as forms
 use Rattle.tk_picture.specs.declared.picture.Picture.{Picture}
 use Rattle.tk_picture.specs.declared.subject.Subject.{Subject}
 use Rattle.tk_picture.specs.declared.subject.Subject.TheVariants as subjects
@@ -134,7 +134,7 @@ city_parts : (at x y demand word : List ℕ) → length at ≤ 129 → length x 
     → length (line (at ++ codes " " ++ (x ++ codes " " ++ y) ++ demand ++ word)) ≤ 400
 city_parts at x y demand word a b c d e = simp length-append (omega arith)
 
-length_city : (f : Frame) (places : List Point) (demands : List ℕ) (depot : Option ℕ) (c : ℕ) →
+length_city : (f : Extent) (places : List Point) (demands : List ℕ) (depot : Option ℕ) (c : ℕ) →
     length (city_line f places demands depot c) ≤ 400
 length_city f places demands depot c =
     city_parts (spot f places c) (signed_decimal (city_place places c).x) (signed_decimal (city_place places c).y)
@@ -210,7 +210,7 @@ length_ending parts =
     (line (codes "<script>") ∷ parts.script.now ∷ line (codes "</script>") ∷ []) in
     omega (arith, parts.tools_short, parts.script_short)
 
-length_page : (parts : Parts) (f : Frame) (places : List Point) (name : List ℕ) (s : Subject) (depot : Option ℕ)
+length_page : (parts : Parts) (f : Extent) (places : List Point) (name : List ℕ) (s : Subject) (depot : Option ℕ)
     (demands : List ℕ) → length name ≤ 1024 → length places ≤ CITY_LIMIT
     → Fits (length places) s → length (paths_of (drawing_of s)) ≤ 100001 → corners_of (paths_of (drawing_of s)) ≤ 200000
     → length (page_text parts f places name (drawing_of s) depot demands) ≤ 1000000000
@@ -236,19 +236,19 @@ length_page parts f places name s depot demands named few fits lines corners =
     omega arith
 
 -- of a picture in a form
-pub length_form : (form : Form) (p : Picture) → length p.name.now ≤ 1024 →
+pub length_form : (form : OutputFormat) (p : Picture) → length p.name.now ≤ 1024 →
     Fits (length (places_of p.view.places)) p.subject → length (text_in form p) ≤ 2 ^ 63
 length_form forms.Svg p named fits =
     let few = paths_few (length (places_of p.view.places)) p.subject fits in
     omega (
       arith,
-      length_picture p.view.frame (places_of p.view.places) p.name.now (drawing_of p.subject) p.depot named
+      length_picture p.view.extent (places_of p.view.places) p.name.now (drawing_of p.subject) p.depot named
           p.view.few (omega (arith, few.0, p.view.few)) (omega (arith, few.1, p.view.few)),
     )
 length_form (forms.Page parts) p named fits =
     let few = paths_few (length (places_of p.view.places)) p.subject fits in
     omega (
       arith,
-      length_page parts p.view.frame (places_of p.view.places) p.name.now p.subject p.depot p.demands.now
+      length_page parts p.view.extent (places_of p.view.places) p.name.now p.subject p.depot p.demands.now
           named p.view.few fits (omega (arith, few.0, p.view.few)) (omega (arith, few.1, p.view.few)),
     )

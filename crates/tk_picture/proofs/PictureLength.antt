@@ -14,15 +14,15 @@ use Rattle.tk_writers.proofs.Pieces.NumberLengths.{length_decimal, length_flat_m
 use Rattle.tk_writers.specs.Written.{line}
 use Rattle.tk_routes.specs.Cvrps.{instance_of}
 use Rattle.tk_routes.specs.Instance.{Instance, customer_count, node_of}
-use Rattle.tk_routes.proofs.Served.{AreServedOnce-short}
+use Rattle.tk_routes.proofs.ServedCustomers.{AreServedOnce-short}
 use Rattle.tk_picture.specs.Colours.{colour, first_colours, place_on_walk, rgb, colour_walk}
 use Rattle.tk_picture.specs.Drawings.{ATour, Cities, Drawing, Path, SomeRoutes, caption_of, each_filled, paths_of}
 use Rattle.tk_picture.specs.Drawings.{route_path, route_paths}
 use Rattle.tk_picture.specs.declared.colour.Colour.{Colour}
-use Rattle.tk_picture.specs.declared.frame.Frame.{Frame}
+use Rattle.tk_picture.specs.declared.extent.Extent.{Extent}
 use Rattle.tk_picture.specs.declared.subject.Subject.{Subject}
 use Rattle.tk_picture.specs.declared.subject.Subject.TheVariants as subjects
-use Rattle.tk_picture.specs.Frames.{across, down, drawn_from_left, drawn_from_top, view_height}
+use Rattle.tk_picture.specs.Extents.{across, down, drawn_from_left, drawn_from_top, view_height}
 use Rattle.tk_picture.specs.Names.{is_plain, shown_byte, shown_name}
 use Rattle.tk_picture.specs.PictureText.{at_depot, between_customers, by_size, closed_line, closed_start, corners}
 use Rattle.tk_picture.specs.PictureText.{dot, dots, halo_start, line_end, line_width, lines, open_line, open_start}
@@ -172,7 +172,7 @@ each_short put short [] = omega arith
 each_short put short (p ∷ paths) =
     omega (arith, short p, each_short put short paths, length-append (put p) (flat_map put paths))
 
-pub length_spot : (f : Frame) (places : List Point) (city : ℕ) → length (spot f places city) ≤ 129
+pub length_spot : (f : Extent) (places : List Point) (city : ℕ) → length (spot f places city) ≤ 129
 length_spot f places city =
     let right = across f (city_place places city) in
     let below = down f (city_place places city) in
@@ -343,14 +343,14 @@ group_parts : (a b w : List ℕ) → length a ≤ 64 → length b ≤ 64 → len
     ++ codes "\">")) ≤ 300
 group_parts a b w short_a short_b short = simp length-append (omega arith)
 
-length_group_line : (f : Frame) (n : ℕ) → length (group_line f n) ≤ 300
+length_group_line : (f : Extent) (n : ℕ) → length (group_line f n) ≤ 300
 length_group_line f n =
     let width : length (line_width n) ≤ 2 =
     either_short (nat_lt n 2000) (codes "20") (codes "6") 2 (omega arith) (omega arith) in
     group_parts (decimal (drawn_from_left f)) (decimal (drawn_from_top f)) (line_width n)
     (length_decimal (drawn_from_left f)) (length_decimal (drawn_from_top f)) width
 
-length_head : (f : Frame) (t : List ℕ) (n : ℕ) → length (head f t n) ≤ 900 + length t * 2
+length_head : (f : Extent) (t : List ℕ) (n : ℕ) → length (head f t n) ≤ 900 + length t * 2
 length_head f t n =
     let height = view_height f in
     let rect = line (codes "<rect width=\"100%\" height=\"100%\" fill=\"white\"/>") in
@@ -383,7 +383,7 @@ paths_few n (subjects.Routes cvrp routes count cost) fits =
     let served = AreServedOnce-short (customer_count i) (concat all) fits.1 in
     (omega (arith, fits.0, served, filled_few (route_path i) 1 all), omega (arith, fits.0, served, corners_few i 1 all))
 
-pub length_picture : (f : Frame) (places : List Point) (name : List ℕ) (d : Drawing) (depot : Option ℕ)
+pub length_picture : (f : Extent) (places : List Point) (name : List ℕ) (d : Drawing) (depot : Option ℕ)
     → length name ≤ 1024 → length places ≤ CITY_LIMIT
     → length (paths_of d) ≤ 100001 → corners_of (paths_of d) ≤ 200000 →
     length (picture_text f places name d depot) ≤ 500000000

@@ -1,7 +1,7 @@
 pub mod Colours
 pub mod Drawings
 pub mod DrawnRoutes
-pub mod Frames
+pub mod Extents
 pub mod Names
 pub mod PageText
 pub mod PictureText

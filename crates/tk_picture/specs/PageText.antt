@@ -14,7 +14,7 @@ use Rattle.tk_writers.specs.Written.{line, spaced_numbers}
 use Rattle.tk_distance.specs.PlaneOf.{city_place}
 use Rattle.tk_routes.specs.Instance.{Instance, node_of}
 use Rattle.tk_routes.specs.Routes.{route_length, route_load}
-use Rattle.tk_picture.specs.declared.frame.Frame.{Frame}
+use Rattle.tk_picture.specs.declared.extent.Extent.{Extent}
 use Rattle.tk_picture.specs.declared.page.parts.Parts.{Parts}
 use Rattle.tk_picture.specs.Drawings.{Drawing, Path, SomeRoutes, caption_of, each_filled, paths_of}
 use Rattle.tk_picture.specs.Names.{shown_name}
@@ -101,7 +101,7 @@ abbrev pub coordinates : List Point → ℕ → List ℕ
 coordinates places c = signed_decimal (city_place places c).x ++ codes " " ++ signed_decimal (city_place places c).y
 
 -- the position of a city in the picture, its coordinates, its demand, and whether it is the depot
-abbrev pub city_line : Frame → List Point → List ℕ → Option ℕ → ℕ → List ℕ
+abbrev pub city_line : Extent → List Point → List ℕ → Option ℕ → ℕ → List ℕ
 city_line f places demands depot c =
     line (spot f places c ++ codes " " ++ coordinates places c ++ demand_word (slice_get demands (c - 1))
     ++ depot_word depot c)
@@ -150,7 +150,7 @@ legs_block _ = []
 abbrev pub page_ending : Parts → List ℕ
 page_ending parts = parts.tools.now ++ line (codes "<script>") ++ parts.script.now ++ line (codes "</script>")
 
-abbrev pub page_text : Parts → Frame → List Point → List ℕ → Drawing → Option ℕ → List ℕ → List ℕ
+abbrev pub page_text : Parts → Extent → List Point → List ℕ → Drawing → Option ℕ → List ℕ → List ℕ
 page_text parts f places name drawing depot demands =
     opening parts name (length places) drawing
     ++ picture_text f places name drawing depot ++ line (codes "</div>")

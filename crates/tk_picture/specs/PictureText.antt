@@ -1,4 +1,4 @@
--- The text of a picture (SVG 1.1). Within its group, a unit is a ten-thousandth of the frame's longer side.
+-- The text of a picture (SVG 1.1). Within its group, a unit is a ten-thousandth of the extent's longer side.
 --     spot f places city      the position of a city
 --     closed_line spot path      a closed line through cities, in the colour of its number
 --     part_line part spot path      that line, or a part of it
@@ -16,15 +16,15 @@ use Rattle.tk_picture.specs.Colours.{colour}
 use Rattle.tk_picture.specs.Drawings.{Cities, Drawing, Path, SomeRoutes, caption_of, paths_of, route_paths}
 use Rattle.tk_picture.specs.declared.part.Part.{Part}
 use Rattle.tk_picture.specs.declared.part.Part.TheVariants as parts
-use Rattle.tk_picture.specs.declared.frame.Frame.{Frame}
-use Rattle.tk_picture.specs.Frames.{across, down, drawn_from_left, drawn_from_top, view_height}
+use Rattle.tk_picture.specs.declared.extent.Extent.{Extent}
+use Rattle.tk_picture.specs.Extents.{across, down, drawn_from_left, drawn_from_top, view_height}
 use Rattle.tk_picture.specs.Names.{shown_name}
 
 abbrev pub title : List ℕ → ℕ → Drawing → List ℕ
 title name n drawing = shown_name name ++ codes ": " ++ caption_of n drawing
 
 -- the position of a city
-abbrev pub spot : Frame → List Point → ℕ → List ℕ
+abbrev pub spot : Extent → List Point → ℕ → List ℕ
 spot f places city =
     decimal (across f (city_place places city)) ++ codes "," ++ decimal (down f (city_place places city))
 
@@ -174,13 +174,13 @@ heading_line title =
 abbrev pub line_width : ℕ → List ℕ
 line_width n = by_size n (codes "20") (codes "6")
 
-abbrev pub group_line : Frame → ℕ → List ℕ
+abbrev pub group_line : Extent → ℕ → List ℕ
 group_line f n =
     line (codes "<g transform=\"translate(" ++ decimal (drawn_from_left f) ++ codes " " ++ decimal (drawn_from_top f)
     ++ codes ") scale(0.1)\" fill=\"none\" stroke-linecap=\"round\" stroke-linejoin=\"round\" stroke-width=\""
     ++ line_width n ++ codes "\">")
 
-abbrev pub head : Frame → List ℕ → ℕ → List ℕ
+abbrev pub head : Extent → List ℕ → ℕ → List ℕ
 head f title n =
     view_line (view_height f) ++ title_line title
     ++ line (codes "<rect width=\"100%\" height=\"100%\" fill=\"white\"/>") ++ heading_line title ++ group_line f n
@@ -189,7 +189,7 @@ abbrev pub tail : List ℕ
 tail = line (codes "</g>") ++ line (codes "</svg>")
 
 -- a title, lines through cities, the cities, the numbers of routes, and the depot
-abbrev pub picture_text : Frame → List Point → List ℕ → Drawing → Option ℕ → List ℕ
+abbrev pub picture_text : Extent → List Point → List ℕ → Drawing → Option ℕ → List ℕ
 picture_text f places name drawing depot =
     head f (title name (length places) drawing) (length places)
     ++ lines (spot f places) (length places) drawing

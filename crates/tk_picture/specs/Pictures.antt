@@ -8,10 +8,10 @@ use Rattle.tk_picture.specs.Drawings.{ATour, Cities, Drawing, SomeRoutes}
 use Rattle.tk_picture.specs.DrawnRoutes.{RoutesFit}
 use Rattle.tk_picture.specs.PictureText.{picture_text}
 use Rattle.tk_picture.specs.PageText.{page_text}
-use Rattle.tk_picture.specs.declared.frame.Frame.{Frame}
+use Rattle.tk_picture.specs.declared.extent.Extent.{Extent}
 use Rattle.tk_picture.specs.declared.page.parts.Parts.{Parts}
-use Rattle.tk_picture.specs.declared.picture.Form.{Form}
-use Rattle.tk_picture.specs.declared.picture.Form.TheVariants as forms
+use Rattle.tk_picture.specs.declared.picture.OutputFormat.{OutputFormat}
+use Rattle.tk_picture.specs.declared.picture.OutputFormat.TheVariants as forms
 use Rattle.tk_picture.specs.declared.picture.Picture.{Picture}
 use Rattle.tk_picture.specs.declared.subject.Subject.{Subject}
 use Rattle.tk_picture.specs.declared.subject.Subject.TheVariants as subjects
@@ -29,13 +29,13 @@ Fits n (subjects.Tour cities length) = IsTour n cities.now
 Fits n (subjects.Routes cvrp routes count cost) = RoutesFit n cvrp routes.now
 
 -- the text of a drawing, in a format
-abbrev pub form_text : Form → Frame → List Point → List ℕ → Drawing → Option ℕ → List ℕ → List ℕ
+abbrev pub form_text : OutputFormat → Extent → List Point → List ℕ → Drawing → Option ℕ → List ℕ → List ℕ
 form_text forms.Svg f places name drawing depot demands = picture_text f places name drawing depot
 form_text (forms.Page parts) f places name drawing depot demands = page_text parts f places name drawing depot demands
 
-abbrev pub text_in : Form → Picture → List ℕ
+abbrev pub text_in : OutputFormat → Picture → List ℕ
 text_in form p =
-    form_text form p.view.frame (places_of p.view.places) p.name.now (drawing_of p.subject) p.depot p.demands.now
+    form_text form p.view.extent (places_of p.view.places) p.name.now (drawing_of p.subject) p.depot p.demands.now
 
 abbrev pub text_of : Picture → List ℕ
 text_of p = text_in forms.Svg p

@@ -9,4 +9,4 @@ city_count v = length (places_of v.places)
 
 -- the position of a city
 abbrev pub spot_in : View → ℕ → List ℕ
-spot_in v = spot v.frame (places_of v.places)
+spot_in v = spot v.extent (places_of v.places)

@@ -4,7 +4,7 @@ ghost use Rattle.tk_writers.specs.Pens.{Puts};
 ghost use Rattle.tk_writers.specs.Puts.{Writes};
 ghost use Rattle.tk_writers.specs.Sinks.{IsBroken};
 ghost use Rattle.tk_distance.specs.Cities.{IsCity};
-ghost use Rattle.tk_picture.specs.Frames.{drawn_from_left, drawn_from_top};
+ghost use Rattle.tk_picture.specs.Extents.{drawn_from_left, drawn_from_top};
 ghost use Rattle.tk_picture.specs.PictureText.{group_line, head, heading_line, lines};
 ghost use Rattle.tk_picture.specs.PictureText.{route_numbers, title, title_line, view_line};
 ghost use Rattle.tk_picture.specs.Pictures.{Fits, drawing_of, text_in, text_of};
@@ -13,7 +13,7 @@ ghost use Rattle.tk_picture.specs.Views.{city_count, spot_in};
 use crate::caption::put_title;
 use crate::closed_lines::put_tour;
 use crate::dots::{by_size, put_city_dots, put_depot};
-use crate::frame::Frame;
+use crate::extent::Extent;
 use crate::numbers::{put_halo_start, put_numbers, put_numbers_start};
 use crate::page::parts::Parts;
 use crate::page::put_page;
@@ -35,7 +35,7 @@ pub struct Picture<'a> {
 
 /// The format of a picture.
 #[derive(Clone, Copy)]
-pub enum Form<'a> {
+pub enum OutputFormat<'a> {
     /// SVG.
     Svg,
     /// An HTML page that has these parts.
@@ -72,21 +72,21 @@ fn put_heading_line<W: Sink>(pen: &mut Pen<'_, W>, picture: &Picture<'_>)
 }
 
 /// Writes the position of the drawing in the view.
-fn put_group_start<W: Sink>(pen: &mut Pen<'_, W>, frame: &Frame)
+fn put_group_start<W: Sink>(pen: &mut Pen<'_, W>, extent: &Extent)
     ensures { Puts W.Sink pen.old pen.new (codes "<g transform=\"translate("
-        ++ decimal (drawn_from_left frame.now) ++ codes " " ++ decimal (drawn_from_top frame.now)) }
+        ++ decimal (drawn_from_left extent.now) ++ codes " " ++ decimal (drawn_from_top extent.now)) }
 {
     pen.put(b"<g transform=\"translate(");
-    pen.put_wide(frame.drawn_from_left());
+    pen.put_wide(extent.drawn_from_left());
     pen.put(b" ");
-    pen.put_wide(frame.drawn_from_top());
+    pen.put_wide(extent.drawn_from_top());
 }
 
 /// Writes the line that begins the group of lines and points.
-fn put_group_line<W: Sink>(pen: &mut Pen<'_, W>, frame: &Frame, cities: u32)
-    ensures { Puts W.Sink pen.old pen.new (group_line frame.now cities) }
+fn put_group_line<W: Sink>(pen: &mut Pen<'_, W>, extent: &Extent, cities: u32)
+    ensures { Puts W.Sink pen.old pen.new (group_line extent.now cities) }
 {
-    put_group_start(pen, frame);
+    put_group_start(pen, extent);
     pen.put(
         b") scale(0.1)\" fill=\"none\" stroke-linecap=\"round\" stroke-linejoin=\"round\" stroke-width=\"",
     );
@@ -96,15 +96,15 @@ fn put_group_line<W: Sink>(pen: &mut Pen<'_, W>, frame: &Frame, cities: u32)
 
 /// Writes the text before the lines and the points.
 fn put_head<W: Sink>(pen: &mut Pen<'_, W>, picture: &Picture<'_>)
-    ensures { Puts W.Sink pen.old pen.new (head picture.now.view.frame
+    ensures { Puts W.Sink pen.old pen.new (head picture.now.view.extent
         (title picture.now.name.now (city_count picture.now.view) (drawing_of picture.now.subject))
         (city_count picture.now.view)) }
 {
-    put_view_line(pen, picture.view.frame.view_height());
+    put_view_line(pen, picture.view.extent.view_height());
     put_title_line(pen, picture);
     pen.put(b"<rect width=\"100%\" height=\"100%\" fill=\"white\"/>\n");
     put_heading_line(pen, picture);
-    put_group_line(pen, &picture.view.frame, picture.view.size());
+    put_group_line(pen, &picture.view.extent, picture.view.size());
 }
 
 /// Writes the lines through cities.
@@ -156,14 +156,14 @@ pub(crate) fn put_picture<W: Sink>(pen: &mut Pen<'_, W>, picture: &Picture<'_>)
 }
 
 /// Writes a picture in a format.
-fn put_form<W: Sink>(pen: &mut Pen<'_, W>, picture: &Picture<'_>, form: Form<'_>)
+fn put_form<W: Sink>(pen: &mut Pen<'_, W>, picture: &Picture<'_>, form: OutputFormat<'_>)
     requires fits { Fits (city_count picture.now.view) picture.now.subject }
     requires depot { IfSome picture.now.depot (IsCity (city_count picture.now.view)) }
     ensures { Puts W.Sink pen.old pen.new (text_in form.entry picture.now) }
 {
     match form {
-        Form::Svg => put_picture(pen, picture),
-        Form::Page(parts) => put_page(pen, picture, &parts),
+        OutputFormat::Svg => put_picture(pen, picture),
+        OutputFormat::Page(parts) => put_page(pen, picture, &parts),
     }
 }
 
@@ -171,7 +171,7 @@ fn put_form<W: Sink>(pen: &mut Pen<'_, W>, picture: &Picture<'_>, form: Form<'_>
 pub fn write_picture<W: Sink>(
     out: &mut W,
     picture: &Picture<'_>,
-    form: Form<'_>,
+    form: OutputFormat<'_>,
 ) -> Result<(), WriteFault>
     requires fits { Fits (city_count picture.now.view) picture.now.subject }
     requires depot { IfSome picture.now.depot (IsCity (city_count picture.now.view)) }

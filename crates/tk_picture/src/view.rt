@@ -3,33 +3,33 @@ ghost use Rattle.std.specs.Prelude.{◌≤◌, length};
 ghost use Rattle.tk_problem.specs.declared.limits.TheConstants.{CITY_LIMIT};
 ghost use Rattle.tk_problem.specs.PlacesOf.{places_of};
 
-use crate::frame::Frame;
+use crate::extent::Extent;
 use tk_problem::Places;
 use tk_routes::Cvrp;
 use tk_writers::{Pen, Sink};
 
-/// The points of at most 100,000 cities, and the frame of a picture of them.
+/// The points of at most 100,000 cities, and the extent of a picture of them.
 #[derive(Clone, Copy)]
 pub struct View<'a> {
     pub places: Places<'a>,
-    pub frame: Frame,
+    pub extent: Extent,
     ghost few: { length (places_of places) ≤ CITY_LIMIT },
 }
 
 impl<'a> View<'a> {
     ghost use Rattle.std.specs.Prelude.{◌≡◌};
-    ghost use Rattle.tk_picture.specs.Frames.{IsFrame};
+    ghost use Rattle.tk_picture.specs.Extents.{IsExtent};
 
     /// A view of these points.
     pub fn over(places: Places<'a>) -> View<'a>
         requires some { 1 ≤ length (places_of places) }
         requires few { length (places_of places) ≤ CITY_LIMIT }
         ensures places { result.places ≡ places.entry }
-        ensures frame { IsFrame (places_of places.entry) result.frame }
+        ensures extent { IsExtent (places_of places.entry) result.extent }
     {
         View {
             places,
-            frame: Frame::of(places),
+            extent: Extent::of(places),
         }
     }
 }
@@ -60,9 +60,9 @@ impl View<'_> {
         ensures { Puts W.Sink pen.old pen.new (spot_in self.now city) }
     {
         let place = self.places.get(city as usize - 1);
-        pen.put_wide(self.frame.across(place));
+        pen.put_wide(self.extent.across(place));
         pen.put(b",");
-        pen.put_wide(self.frame.down(place));
+        pen.put_wide(self.extent.down(place));
     }
 
     /// Writes the position of a city, on a line of its own.

@@ -1,7 +1,7 @@
 pub mod PairWeights
-pub mod Placing
-pub mod Triangle
-pub mod Units
+pub mod EqualPoints
+pub mod LowerTriangle
+pub mod UnitPoints
 pub mod WeightCounts
 pub mod WeightLines
 pub mod WeightsSoFar

@@ -13,12 +13,12 @@ use Rattle.tk_problem.proofs.WeightLines.{lines_within, order-lines}
 use Rattle.std.proofs.lemmas.List.{get_or-map, get_or-set_same, get_or-set_other, get_or-replicate, length-replicate}
 use Rattle.std.proofs.lemmas.List.{length-map, ext_get_or}
 use Rattle.std.proofs.lemmas.List.Sums.{fold_push}
-use Rattle.tk_problem.specs.declared.place.Place.{Place}
+use Rattle.tk_problem.specs.declared.cell.Cell.{Cell}
 use Rattle.tk_problem.specs.declared.weights.Format.{Format}
 use Rattle.tk_problem.specs.declared.weights.Format.TheVariants.{FullMatrix, LowerRow}
 use Rattle.tk_problem.specs.WeightOrder.{place, order, is_of, weight_of, lower_of, lower_index}
-use Rattle.tk_problem.proofs.Triangle.{pairs, pairs-below, lower_index-below, lower_index-above, length-lower}
-use Rattle.tk_problem.proofs.Triangle.{get_or-lower, place-lower}
+use Rattle.tk_problem.proofs.LowerTriangle.{pairs, pairs-below, lower_index-below, lower_index-above, length-lower}
+use Rattle.tk_problem.proofs.LowerTriangle.{get_or-lower, place-lower}
 
 -- ---- the cells of a pair
 
@@ -31,7 +31,7 @@ two_ways _ _ _ _ e = cc
 pub same_number : (a b : ℕ) → eqb a b ≡ true → a ≡ b
 same_number a b e = grind (arith, nat_tests)
 
-lower_index-of : (i j : ℕ) (p : Place) → j < i → is_of i j p ≡ true → lower_index p ≡ pairs i + j
+lower_index-of : (i j : ℕ) (p : Cell) → j < i → is_of i j p ≡ true → lower_index p ≡ pairs i + j
 lower_index-of i j p less e =
     elim (two_ways (eqb p.row i) (eqb p.column j) (eqb p.row j) (eqb p.column i) e) as (λ _. lower_index
     p ≡ pairs i + j) [
@@ -41,7 +41,7 @@ lower_index-of i j p less e =
           ∙ ap (λ c. lower_index (place j c)) (same_number p.column i h.1) ∙ lower_index-above i j less
     ]
 
-is_of-diagonal : (i j : ℕ) (p : Place) → j < i → p.row ≡ p.column → is_of i j p ≡ false
+is_of-diagonal : (i j : ℕ) (p : Cell) → j < i → p.row ≡ p.column → is_of i j p ≡ false
 is_of-diagonal i j p less e = grind (arith, nat_tests)
 
 is_of-below : (i j : ℕ) → is_of i j (place i j) ≡ true
@@ -52,29 +52,29 @@ is_of-above i j = grind (arith, nat_tests)
 
 -- ---- one more entry
 
-abbrev pub origin : Place
+abbrev pub origin : Cell
 origin = place 0 0
 
-weight_of-push : (i j : ℕ) (es : List (Place × ℕ)) (p : Place) (w : ℕ) →
+weight_of-push : (i j : ℕ) (es : List (Cell × ℕ)) (p : Cell) (w : ℕ) →
     weight_of i j (es ++ (p, w) ∷ []) ≡ cond (is_of i j p) w (weight_of i j es)
 weight_of-push i j es p w = fold_push (λ w e. cond (is_of i j e.0) e.1 w) 0 es (p, w)
 
-pub length-lower_of : (n : ℕ) (es : List (Place × ℕ)) → length (lower_of n es) ≡ pairs n
+pub length-lower_of : (n : ℕ) (es : List (Cell × ℕ)) → length (lower_of n es) ≡ pairs n
 length-lower_of n es = length-map (order LowerRow n) (λ p. weight_of p.row p.column es) ∙ length-lower n
 
-get_or-lower_of : (n k : ℕ) (es : List (Place × ℕ)) → k < pairs n → let p = get_or (order LowerRow n) k origin in
+get_or-lower_of : (n k : ℕ) (es : List (Cell × ℕ)) → k < pairs n → let p = get_or (order LowerRow n) k origin in
     get_or (lower_of n es) k 0 ≡ weight_of p.row p.column es
 get_or-lower_of n k es within = get_or-map (λ p. weight_of p.row p.column es) (order LowerRow n) k origin 0
     (omega (arith, length-lower n))
 
 -- an entry of a pair sets the weight of this pair and of no other
-at_index : (n hi lo k : ℕ) (es : List (Place × ℕ)) (p : Place) (w : ℕ) → lo < hi → hi < n
+at_index : (n hi lo k : ℕ) (es : List (Cell × ℕ)) (p : Cell) (w : ℕ) → lo < hi → hi < n
     → is_of hi lo p ≡ true → k < pairs n
     → (t : Bool) → (let q = get_or (order LowerRow n) k origin in is_of q.row q.column p ≡ t)
     → (let q = get_or (order LowerRow n) k origin in cond t w (weight_of q.row q.column es)) ≡ get_or
     (set (lower_of n es) (lower_index p) w) k 0
 at_index n hi lo k es p w less within here short true e =
-    let q : Place = get_or (order LowerRow n) k origin in
+    let q : Cell = get_or (order LowerRow n) k origin in
     let at = place-lower n k origin short in
     let index : lower_index p ≡ k = lower_index-of q.row q.column p at.0 e ∙ at.2 in
     sym (ap (λ i. get_or (set (lower_of n es) i w) k 0) index
@@ -87,18 +87,18 @@ at_index n hi lo k es p w less within here short false e =
     false≢true (sym e ∙ ap (λ q. is_of q.row q.column p) found ∙ here) in
     sym (get_or-set_other (lower_of n es) (lower_index p) k w 0 apart ∙ get_or-lower_of n k es short)
 
-lower_of-set : (n hi lo : ℕ) (es : List (Place × ℕ)) (p : Place) (w : ℕ) → lo < hi → hi < n → is_of hi lo p ≡ true
+lower_of-set : (n hi lo : ℕ) (es : List (Cell × ℕ)) (p : Cell) (w : ℕ) → lo < hi → hi < n → is_of hi lo p ≡ true
     → lower_of n (es ++ (p, w) ∷ []) ≡ set (lower_of n es) (lower_index p) w
 lower_of-set n hi lo es p w less within here =
-    let more : List (Place × ℕ) = es ++ (p, w) ∷ [] in
+    let more : List (Cell × ℕ) = es ++ (p, w) ∷ [] in
     ext_get_or 0 (lower_of n more) (set (lower_of n es) (lower_index p) w) (length-lower_of n more
     ∙ sym (length-set (lower_of n es) (lower_index p) w ∙ length-lower_of n es)) (λ k inside.
     let short : k < pairs n = omega (arith, length-lower_of n more) in
-    let q : Place = get_or (order LowerRow n) k origin in
+    let q : Cell = get_or (order LowerRow n) k origin in
     get_or-lower_of n k more short ∙ weight_of-push q.row q.column es p w
     ∙ at_index n hi lo k es p w less within here short (is_of q.row q.column p) refl)
 
-pub lower_of-push : (n : ℕ) (es : List (Place × ℕ)) (p : Place) (w : ℕ) → p.row < n → p.column < n → p.row ≢ p.column →
+pub lower_of-push : (n : ℕ) (es : List (Cell × ℕ)) (p : Cell) (w : ℕ) → p.row < n → p.column < n → p.row ≢ p.column →
     lower_of n (es ++ (p, w) ∷ []) ≡ set (lower_of n es) (lower_index p) w
 lower_of-push n es p w row_in column_in apart =
     elim (cases_lt p.column p.row) as (λ _. lower_of n (es ++ (p, w) ∷ []) ≡ set (lower_of n es) (lower_index p) w) [
@@ -107,13 +107,13 @@ lower_of-push n es p w row_in column_in apart =
     ]
 
 -- an entry on the diagonal sets no weight
-pub lower_of-diagonal : (n : ℕ) (es : List (Place × ℕ)) (p : Place) (w : ℕ) → p.row ≡ p.column →
+pub lower_of-diagonal : (n : ℕ) (es : List (Cell × ℕ)) (p : Cell) (w : ℕ) → p.row ≡ p.column →
     lower_of n (es ++ (p, w) ∷ []) ≡ lower_of n es
 lower_of-diagonal n es p w on =
-    let more : List (Place × ℕ) = es ++ (p, w) ∷ [] in
+    let more : List (Cell × ℕ) = es ++ (p, w) ∷ [] in
     ext_get_or 0 (lower_of n more) (lower_of n es) (length-lower_of n more ∙ sym (length-lower_of n es)) (λ k inside.
     let short : k < pairs n = omega (arith, length-lower_of n more) in
-    let q : Place = get_or (order LowerRow n) k origin in
+    let q : Cell = get_or (order LowerRow n) k origin in
     let at = place-lower n k origin short in
     get_or-lower_of n k more short ∙ weight_of-push q.row q.column es p w
     ∙ ap (λ t. cond t w (weight_of q.row q.column es)) (is_of-diagonal q.row q.column p at.0 on)
@@ -128,17 +128,17 @@ lower_of-none n =
     get_or-lower_of n k [] short ∙ sym (get_or-replicate (pairs n) k 0 0 short))
 
 -- the weight of a pair is at the index of the pair
-same_weight : (i j : ℕ) (es : List (Place × ℕ)) → weight_of i j es ≡ weight_of j i es
-same_weight i j es = ap (λ (test : Place → Bool). fold (λ w e. cond (test e.0) e.1 w) 0 es)
+same_weight : (i j : ℕ) (es : List (Cell × ℕ)) → weight_of i j es ≡ weight_of j i es
+same_weight i j es = ap (λ (test : Cell → Bool). fold (λ w e. cond (test e.0) e.1 w) 0 es)
     (fun_ext (λ p. or_comm (eqb p.row i && eqb p.column j) (eqb p.row j && eqb p.column i)))
 
-weight_at_index : (n hi lo : ℕ) (es : List (Place × ℕ)) → lo < hi → hi < n →
+weight_at_index : (n hi lo : ℕ) (es : List (Cell × ℕ)) → lo < hi → hi < n →
     get_or (lower_of n es) (pairs hi + lo) 0 ≡ weight_of hi lo es
 weight_at_index n hi lo es less within =
     get_or-lower_of n (pairs hi + lo) es (pairs-below n hi lo less within)
     ∙ ap (λ p. weight_of p.row p.column es) (get_or-lower n hi lo origin less within)
 
-pub weight_at : (n : ℕ) (es : List (Place × ℕ)) (p : Place) → p.row < n → p.column < n → p.row ≢ p.column →
+pub weight_at : (n : ℕ) (es : List (Cell × ℕ)) (p : Cell) → p.row < n → p.column < n → p.row ≢ p.column →
     get_or (lower_of n es) (lower_index p) 0 ≡ weight_of p.row p.column es
 weight_at n es p row_in column_in apart =
     elim (cases_lt p.column p.row) as (λ _. get_or (lower_of n es) (lower_index p) 0 ≡ weight_of p.row p.column es) [
@@ -150,7 +150,7 @@ weight_at n es p row_in column_in apart =
           ∙ weight_at_index n p.column p.row es less column_in ∙ same_weight p.column p.row es
     ]
 
-pub lower_index-lt : (n : ℕ) (p : Place) → p.row < n → p.column < n → p.row ≢ p.column → lower_index p < pairs n
+pub lower_index-lt : (n : ℕ) (p : Cell) → p.row < n → p.column < n → p.row ≢ p.column → lower_index p < pairs n
 lower_index-lt n p row_in column_in apart = elim (cases_lt p.column p.row) as (λ _. lower_index p < pairs n) [
   | inl less ↦ omega (arith, lower_index-below p.row p.column less, pairs-below n p.row p.column less row_in)
   | inr more ↦
@@ -160,17 +160,17 @@ lower_index-lt n p row_in column_in apart = elim (cases_lt p.column p.row) as (�
 
 -- ---- the cells of a format
 
-abbrev pub IsWithin : ℕ → Place → Type 0
+abbrev pub IsWithin : ℕ → Cell → Type 0
 IsWithin n p = (p.row < n) × (p.column < n)
 
-All-line : (P : Place → Type 0) (h : ℕ → Place) (s c : ℕ) → ((m : ℕ) → m < s + c → P (h m)) →
+All-line : (P : Cell → Type 0) (h : ℕ → Cell) (s c : ℕ) → ((m : ℕ) → m < s + c → P (h m)) →
     All P (map h (range_with_len s c))
 All-line P h s zero each = All-nil P
 All-line P h s (suc c) each =
     All-cons P (h s) (map h (range_with_len (s + 1) c)) (each s (omega arith))
     (All-line P h (s + 1) c (λ m less. each m (omega arith)))
 
-All-lines : (P : Place → Type 0) (g : ℕ → List Place) (s c : ℕ) → ((k : ℕ) → k < s + c → All P (g k)) →
+All-lines : (P : Cell → Type 0) (g : ℕ → List Cell) (s c : ℕ) → ((k : ℕ) → k < s + c → All P (g k)) →
     All P (flat_map g (range_with_len s c))
 All-lines P g s zero each = All-nil P
 All-lines P g s (suc c) each = All-append P (g s) (flat_map g (range_with_len (s + 1) c)) (each s (omega arith))

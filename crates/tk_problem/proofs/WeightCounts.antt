@@ -8,7 +8,7 @@ use Rattle.std.proofs.lemmas.List.{append-nil}
 use Rattle.std.proofs.lemmas.List.Concat.{flat_map-append}
 use Rattle.std.proofs.lemmas.List.FromFn.{length-map-range_with_len}
 use Rattle.std.proofs.lemmas.List.Sums.{sum_by-append, sum_by-cons}
-use Rattle.tk_problem.specs.declared.place.Place.{Place}
+use Rattle.tk_problem.specs.declared.cell.Cell.{Cell}
 use Rattle.tk_problem.specs.declared.weights.Format.{Format}
 use Rattle.tk_problem.specs.declared.weights.Format.TheVariants.{FullMatrix, UpperRow, LowerRow, UpperDiagRow}
 use Rattle.tk_problem.specs.declared.weights.Format.TheVariants.{LowerDiagRow, UpperCol, LowerCol, UpperDiagCol}
@@ -16,7 +16,7 @@ use Rattle.tk_problem.specs.declared.weights.Format.TheVariants.{LowerDiagCol}
 use Rattle.tk_problem.specs.WeightOrder.{place, order, is_of, entry_count, times_written}
 use Rattle.tk_problem.specs.WeightLines.{first_item, end_item, place_on, items}
 use Rattle.tk_problem.proofs.WeightLines.{order-lines}
-use Rattle.tk_problem.proofs.Triangle.{pairs, pairs-suc, range_more}
+use Rattle.tk_problem.proofs.LowerTriangle.{pairs, pairs-suc, range_more}
 
 -- ---- sums over lines
 
@@ -24,7 +24,7 @@ abbrev total : (ℕ → ℕ) → ℕ → ℕ
 total v zero = 0
 total v (suc c) = total v c + v c
 
-pub flat_map-suc : (g : ℕ → List Place) (c : ℕ) →
+pub flat_map-suc : (g : ℕ → List Cell) (c : ℕ) →
     flat_map g (range_with_len 0 (suc c)) ≡ flat_map g (range_with_len 0 c) ++ g c
 flat_map-suc g c =
     let last : 0 + c ≡ c = omega arith in
@@ -32,12 +32,12 @@ flat_map-suc g c =
     ∙ ap (λ ps. flat_map g (range_with_len 0 c) ++ ps) (append-nil (g (0 + c)))
     ∙ ap (λ k. flat_map g (range_with_len 0 c) ++ g k) last
 
-length-lines : (g : ℕ → List Place) (c : ℕ) → length (flat_map g (range_with_len 0 c)) ≡ total (λ k. length (g k)) c
+length-lines : (g : ℕ → List Cell) (c : ℕ) → length (flat_map g (range_with_len 0 c)) ≡ total (λ k. length (g k)) c
 length-lines g zero = refl
 length-lines g (suc c) = ap length (flat_map-suc g c) ∙ length-append (flat_map g (range_with_len 0 c)) (g c)
     ∙ ap (λ k. k + length (g c)) (length-lines g c)
 
-count-lines : (p : Place → Bool) (g : ℕ → List Place) (c : ℕ) →
+count-lines : (p : Cell → Bool) (g : ℕ → List Cell) (c : ℕ) →
     count_by p (flat_map g (range_with_len 0 c)) ≡ total (λ k. count_by p (g k)) c
 count-lines p g zero = refl
 count-lines p g (suc c) =
@@ -141,7 +141,7 @@ length-order LowerDiagCol n = from_diagonal_count LowerDiagCol n (λ k. refl)
 -- ---- how often a pair is written
 
 -- a line without an entry of the pair, and one whose only entry of the pair is at t
-count_none : (p : Place → Bool) (h : ℕ → Place) (s c : ℕ) → ((m : ℕ) → s ≤ m → m < s + c → p (h m) ≡ false) →
+count_none : (p : Cell → Bool) (h : ℕ → Cell) (s c : ℕ) → ((m : ℕ) → s ≤ m → m < s + c → p (h m) ≡ false) →
     count_by p (map h (range_with_len s c)) ≡ 0
 count_none p h s zero none = refl
 count_none p h s (suc c) none =
@@ -149,7 +149,7 @@ count_none p h s (suc c) none =
     ∙ rw (none s (omega arith) (omega arith))
     (omega (arith, count_none p h (s + 1) c (λ m more less. none m (omega arith) (omega arith))))
 
-count_one : (p : Place → Bool) (h : ℕ → Place) (s c t : ℕ) → s ≤ t → t < s + c → p (h t) ≡ true →
+count_one : (p : Cell → Bool) (h : ℕ → Cell) (s c t : ℕ) → s ≤ t → t < s + c → p (h t) ≡ true →
     ((m : ℕ) → m ≢ t → p (h m) ≡ false) → count_by p (map h (range_with_len s c)) ≡ 1
 count_one p h s zero t low high one none = absurd (omega arith)
 count_one p h s (suc c) t low high one none =

@@ -6,7 +6,7 @@ use Rattle.std.proofs.lemmas.List.{append-nil}
 use Rattle.std.proofs.lemmas.List.Elements.{filter-append}
 use Rattle.std.proofs.lemmas.Bool.{cases_lt}
 use Rattle.std.proofs.lemmas.Bool.Decides.{nat_tests}
-use Rattle.tk_problem.specs.declared.place.Place.{Place}
+use Rattle.tk_problem.specs.declared.cell.Cell.{Cell}
 use Rattle.tk_problem.specs.declared.weights.Format.{Format}
 use Rattle.tk_problem.specs.declared.weights.Format.TheVariants.{FullMatrix, UpperRow, LowerRow, UpperDiagRow}
 use Rattle.tk_problem.specs.declared.weights.Format.TheVariants.{LowerDiagRow, UpperCol, LowerCol, UpperDiagCol}
@@ -42,7 +42,7 @@ places_last f n line item end last done more =
           absurd (omega (arith, more, ap length empty))
     ]
   where
-    rest : List Place
+    rest : List Cell
     rest = weight_lines f n (line + 1) (n - (line + 1))
 
     none : (from : ℕ) → end ≤ from → items f line from end ≡ []
@@ -51,21 +51,21 @@ places_last f n line item end last done more =
 -- ---- the order, which is a selection of all cells, goes through the cells line by line
 
 -- cells at the numbers from s on: all are kept, none is kept, or they are split in two
-filter_all : (h : ℕ → Place) (p : Place → Bool) (s c : ℕ) → ((m : ℕ) → s ≤ m → m < s + c → p (h m) ≡ true) →
+filter_all : (h : ℕ → Cell) (p : Cell → Bool) (s c : ℕ) → ((m : ℕ) → s ≤ m → m < s + c → p (h m) ≡ true) →
     filter p (map h (range_with_len s c)) ≡ map h (range_with_len s c)
 filter_all h p s zero kept = refl
 filter_all h p s (suc c) kept =
     rw (kept s (omega arith) (omega arith))
     (ap (λ ps. h s ∷ ps) (filter_all h p (s + 1) c (λ m more less. kept m (omega arith) (omega arith))))
 
-filter_none : (h : ℕ → Place) (p : Place → Bool) (s c : ℕ) → ((m : ℕ) → s ≤ m → m < s + c → p (h m) ≡ false) →
+filter_none : (h : ℕ → Cell) (p : Cell → Bool) (s c : ℕ) → ((m : ℕ) → s ≤ m → m < s + c → p (h m) ≡ false) →
     filter p (map h (range_with_len s c)) ≡ []
 filter_none h p s zero left = refl
 filter_none h p s (suc c) left =
     rw (left s (omega arith) (omega arith))
     (filter_none h p (s + 1) c (λ m more less. left m (omega arith) (omega arith)))
 
-split : (h : ℕ → Place) (s c d : ℕ) → map h (range_with_len s (c + d)) ≡ map h (range_with_len s c)
+split : (h : ℕ → Cell) (s c d : ℕ) → map h (range_with_len s (c + d)) ≡ map h (range_with_len s c)
     ++ map h (range_with_len (s + c) d)
 split h s zero d = let e : zero + d ≡ d = omega arith in let f : s + zero ≡ s = omega arith in rw (e, f) refl
 split h s (suc c) d =
@@ -73,12 +73,12 @@ split h s (suc c) d =
     let f : s + suc c ≡ s + 1 + c = omega arith in
     rw (e, f) (ap (λ ps. h s ∷ ps) (split h (s + 1) c d))
 
-filter_split : (h : ℕ → Place) (p : Place → Bool) (s c d : ℕ) → filter p (map h (range_with_len s (c + d))) ≡ filter
+filter_split : (h : ℕ → Cell) (p : Cell → Bool) (s c d : ℕ) → filter p (map h (range_with_len s (c + d))) ≡ filter
     p (map h (range_with_len s c)) ++ filter p (map h (range_with_len (s + c) d))
 filter_split h p s c d = ap (filter p) (split h s c d)
     ∙ filter-append p (map h (range_with_len s c)) (map h (range_with_len (s + c) d))
 
-filter_between : (h : ℕ → Place) (p : Place → Bool) (a b n : ℕ) → a ≤ b → b ≤ n
+filter_between : (h : ℕ → Cell) (p : Cell → Bool) (a b n : ℕ) → a ≤ b → b ≤ n
     → ((m : ℕ) → m < n → p (h m) ≡ (leb a m && ltb m b))
     → filter p (map h (range_with_len 0 n)) ≡ map h (range_with_len a (b - a))
 filter_between h p a b n some within is =
@@ -93,13 +93,13 @@ filter_between h p a b n some within is =
     (append-nil (map h (range_with_len a (b - a))))
 
 -- the lines of all cells, and those of a format
-filter-flat_map : (p : Place → Bool) (g : ℕ → List Place) (ks : List ℕ) →
+filter-flat_map : (p : Cell → Bool) (g : ℕ → List Cell) (ks : List ℕ) →
     filter p (flat_map g ks) ≡ flat_map (λ k. filter p (g k)) ks
 filter-flat_map p g [] = refl
 filter-flat_map p g (k ∷ ks) = filter-append p (g k) (flat_map g ks)
     ∙ ap (λ ps. filter p (g k) ++ ps) (filter-flat_map p g ks)
 
-same_lines : (g h : ℕ → List Place) (s c : ℕ) → ((k : ℕ) → k < s + c → g k ≡ h k) →
+same_lines : (g h : ℕ → List Cell) (s c : ℕ) → ((k : ℕ) → k < s + c → g k ≡ h k) →
     flat_map g (range_with_len s c) ≡ flat_map h (range_with_len s c)
 same_lines g h s zero same = refl
 same_lines g h s (suc c) same = ap (λ ps. ps ++ flat_map g (range_with_len (s + 1) c)) (same s (omega arith))
@@ -109,7 +109,7 @@ pub lines_within : (f : Format) (n k : ℕ) → k < n → (first_item f k ≤ en
 lines_within FullMatrix n k less = (omega arith, omega arith)
 lines_within _ n k less = (omega arith, omega arith)
 
-kept_lines : (f : Format) (p : Place → Bool) (n : ℕ)
+kept_lines : (f : Format) (p : Cell → Bool) (n : ℕ)
     → ((k m : ℕ) → m < n → p (place_on f k m) ≡ (leb (first_item f k) m && ltb m (end_item f n k)))
     → filter p (flat_map (λ k. map (place_on f k) (range_with_len 0 n)) (range_with_len 0 n)) ≡ weight_lines f n 0 n
 kept_lines f p n is =

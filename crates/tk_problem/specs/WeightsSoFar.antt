@@ -1,12 +1,12 @@
 -- Explicit weights while they are read.
 use Rattle.std.specs.Prelude.{◌≡◌, ◌≤◌, ℕ, IfSome, List, drop, length, slice_get}
-use Rattle.tk_problem.specs.declared.place.Place.{Place}
+use Rattle.tk_problem.specs.declared.cell.Cell.{Cell}
 use Rattle.tk_problem.specs.declared.weights.Format.{Format}
 use Rattle.tk_problem.specs.WeightOrder.{order, entries, lower_of, weight_of}
 
 -- the cells of the weights that are still to be read, and the weights of all pairs so far
 pub record Filling : Type 0 where
-  pub places : List Place
+  pub places : List Cell
   pub weights : List ℕ
 
 -- the first weights of a format for n cities, which have been read

@@ -1,10 +1,10 @@
 //! Problems: points in the plane, explicit weights and their order, and routing data.
 #![tactic(auto)]
 
+mod cell;
 mod laws;
 mod limits;
 mod lower_weights;
-mod place;
 mod point;
 mod points;
 mod problem;
@@ -13,13 +13,13 @@ mod unit;
 mod weight_order;
 mod weights;
 
+pub use cell::Cell;
 pub use laws::limits_are_these_numbers;
 pub use limits::{
     CANDIDATE_LIMIT, CAPACITY_LIMIT, CITY_LIMIT, COORDINATE_LIMIT, DISTANCE_LIMIT, ENTRY_LIMIT,
     ROUTE_LIMIT, TABLE_LIMIT, TEXT_LIMIT,
 };
 pub use lower_weights::LowerWeights;
-pub use place::Place;
 pub use point::{Point, SCALE, WholePoint};
 pub use points::{Places, Points};
 pub use problem::Problem;

@@ -6,7 +6,7 @@ ghost use Rattle.tk_problem.specs.declared.weights.Format.{Format};
 ghost use Rattle.tk_problem.specs.WeightOrder as Order;
 ghost use Rattle.tk_problem.specs.WeightsSoFar.{Filling, IsSoFar, IsWeightSoFar};
 
-use crate::place::Place;
+use crate::cell::Cell;
 use crate::weight_order::WeightCursor;
 use crate::weights::Format;
 use std::alloc::{AllocError, Global};
@@ -54,7 +54,7 @@ impl LowerWeights {
 
     /// The cell of the next weight.
     #[inline(always)]
-    pub fn place(&self) -> Place
+    pub fn place(&self) -> Cell
         requires { 0 < length self.now.places }
         ensures { slice_get self.now.places 0 ≡ Some result }
     {

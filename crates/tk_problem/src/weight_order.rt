@@ -1,11 +1,11 @@
 //! The order in which explicit weights are written.
 ghost use Rattle.std.specs.Prelude.{◌≡◌, ◌≤◌, ◌<◌, ◌+◌, ◌-◌, ◌^◌, ◌==◌, ℕ, List, [], count_by, drop, length, IfSome};
 ghost use Rattle.std.specs.Prelude.{IfNone, slice_get, Some};
-ghost use Rattle.tk_problem.specs.declared.place.Place.{Place};
+ghost use Rattle.tk_problem.specs.declared.cell.Cell.{Cell};
 ghost use Rattle.tk_problem.specs.WeightLines as Lines;
 ghost use Rattle.tk_problem.specs.WeightOrder as Order;
 
-use crate::place::Place;
+use crate::cell::Cell;
 use crate::weights::Format;
 use std::marker::Model;
 
@@ -61,7 +61,7 @@ pub struct WeightCursor {
 }
 
 impl Model for WeightCursor {
-    ghost Value = { List Place };
+    ghost Value = { List Cell };
 
     ghost view = { λ s. Lines.places_from s.format s.n s.line s.item s.end };
 
@@ -115,18 +115,18 @@ impl WeightCursor {
 
     /// The cell of the next weight.
     #[inline(always)]
-    pub fn place(&self) -> Place
+    pub fn place(&self) -> Cell
         requires { 0 < length self.now }
         ensures { slice_get self.now 0 ≡ Some result }
     {
         match self.format {
             Format::UpperCol | Format::LowerCol | Format::UpperDiagCol | Format::LowerDiagCol => {
-                Place {
+                Cell {
                     row: self.item,
                     column: self.line,
                 }
             }
-            _ => Place {
+            _ => Cell {
                 row: self.line,
                 column: self.item,
             },

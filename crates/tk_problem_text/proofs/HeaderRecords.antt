@@ -16,7 +16,7 @@ use Rattle.tk_words.specs.Words.{same_word}
 use Rattle.tk_problem_text.specs.HeaderValues.{problem_type_of, weight_type_of, weight_format_of, header_number}
 use Rattle.tk_problem_text.specs.HeaderValues.{name_of}
 use Rattle.tk_lines.specs.Pieces.{Piece, After, has, value_of}
-use Rattle.tk_lines.specs.Reader.Forms.{a_header, a_section}
+use Rattle.tk_lines.specs.Reader.Handlers.{a_header, a_section}
 use Rattle.tk_problem_text.specs.Reader.Kept.{KeepsHeader}
 use Rattle.tk_problem_text.specs.Reader.Headers.{HasHeaders}
 use Rattle.tk_lines.proofs.Pieces.PieceValues.{value_of-new, value_of-none}

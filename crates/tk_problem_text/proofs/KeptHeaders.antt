@@ -8,7 +8,7 @@ use Rattle.tk_words.specs.declared.keyword.Keyword.{Keyword}
 use Rattle.tk_words.specs.Lex.{Token, trim, after_word}
 use Rattle.tk_words.specs.Words.{same_word}
 use Rattle.tk_lines.specs.Pieces.{Piece, After, has, value_of, tokens_in, first_at, Fault}
-use Rattle.tk_lines.specs.Reader.Forms.{a_header, a_section, IsToldWord}
+use Rattle.tk_lines.specs.Reader.Handlers.{a_header, a_section, IsReportedWord}
 use Rattle.tk_problem_text.specs.Reader.Kept.{KeepsHeader, ValueSays}
 use Rattle.tk_words.specs.declared.fault.TextKind.{TextKind}
 use Rattle.tk_words.specs.declared.fault.TextKind.TheVariants as kinds
@@ -18,7 +18,7 @@ use Rattle.tk_problem_text.specs.HeaderValues.{header_number}
 use Rattle.tk_lines.proofs.Pieces.PieceLookups.{tokens_in-header}
 use Rattle.tk_lines.proofs.Pieces.PieceValues.{has-header, has-section, value_of-other, value_of-section, value_of-new}
 use Rattle.tk_lines.proofs.Pieces.PieceValues.{tokens_in-append}
-use Rattle.tk_words.proofs.Bools.{or_true}
+use Rattle.tk_words.proofs.BoolLaws.{or_true}
 use Rattle.std.proofs.Math.Bool.{or-false}
 
 -- pieces with one of a word more say the same of each other word
@@ -90,16 +90,17 @@ pub says_known : {A : Type 0} (f : List ℕ → Option A) (v : List ℕ) (o : Op
 says_known f v None said e is = rw is (record { ok = tt; err = λ n. rw (sym e) refl })
 says_known f v (Some a) said e is = rw is (record { ok = (sym e, λ n. rw (sym e) refl); err = tt })
 
-told_all : (P : ℕ → TextKind → Type 0) (k : TextKind) → ((n : ℕ) → IsToldWord (P n) k) →
-    IsToldWord (λ x. (n : ℕ) → P n x) k
-told_all P kinds.Read h = h 0
-told_all P kinds.NoMemory h = tt
-told_all P _ h = h
+reported_all : (P : ℕ → TextKind → Type 0) (k : TextKind) → ((n : ℕ) → IsReportedWord (P n) k) →
+    IsReportedWord (λ x. (n : ℕ) → P n x) k
+reported_all P kinds.Read h = h 0
+reported_all P kinds.NoMemory h = tt
+reported_all P _ h = h
 
 -- a number within limits
 pub says_number : (low high : ℕ) (v : List ℕ) (said : Result ℕ TextKind)
     → IfOk said (λ n. IsNumber low high (first_word v) n)
-    → ((n : ℕ) → IfErr said (IsToldWord (λ k. first_at n (number_tests low high (first_word v)) ≡ Some (Fault n k))))
+    → ((n : ℕ) → IfErr said (IsReportedWord (λ k. first_at n (number_tests low high (first_word v)) ≡ Some
+    (Fault n k))))
     → ValueSays (header_number low high) (number_tests low high (first_word v)) v said
 says_number low high v (Ok a) h k =
     record {
@@ -112,7 +113,7 @@ says_number low high v (Ok a) h k =
 says_number low high v (Err kind) h k =
     record {
       ok = tt;
-      err = told_all (λ n x. first_at n (number_tests low high (first_word v)) ≡ Some
+      err = reported_all (λ n x. first_at n (number_tests low high (first_word v)) ≡ Some
           (Fault n x)) kind k;
     }
 

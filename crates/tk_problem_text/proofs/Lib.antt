@@ -5,7 +5,7 @@ pub mod PartHeaders
 pub mod PartSections
 pub mod PartsKept
 pub mod PartsWhole
-pub mod ProblemForms
+pub mod ProblemHandlers
 pub mod ProblemLaws
 pub mod ReadNames
 pub mod SectionTokens

@@ -12,7 +12,7 @@ use Rattle.tk_problem.specs.declared.weights.Weights.TheVariants.{Lower}
 use Rattle.tk_problem.specs.Shape.{WeightsFit}
 use Rattle.tk_words.specs.Words.{same_word}
 use Rattle.tk_lines.specs.Pieces.{Piece, Stop, Fault, first_at, has}
-use Rattle.tk_lines.specs.Reader.Forms.{a_header}
+use Rattle.tk_lines.specs.Reader.Handlers.{a_header}
 use Rattle.tk_lines.proofs.Pieces.PieceValues.{has-header}
 use Rattle.tk_problem_text.specs.Reader.Headers.{HasHeaders}
 use Rattle.tk_problem_text.specs.Reader.Parts.{HasParts, HasNoSection}

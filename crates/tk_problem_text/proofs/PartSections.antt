@@ -10,9 +10,9 @@ use Rattle.tk_problem.specs.declared.weights.Weights.TheVariants.{Lower}
 use Rattle.tk_problem.specs.Shape.{WeightsFit}
 use Rattle.tk_words.specs.Lex.{Token}
 use Rattle.tk_words.specs.Words.{same_word}
-use Rattle.tk_words.proofs.Bools.{or_true}
+use Rattle.tk_words.proofs.BoolLaws.{or_true}
 use Rattle.tk_lines.specs.Pieces.{Piece, After, has, tokens_in}
-use Rattle.tk_lines.specs.Reader.Forms.{a_section}
+use Rattle.tk_lines.specs.Reader.Handlers.{a_section}
 use Rattle.tk_problem_text.specs.Reader.Headers.{HasHeaders}
 use Rattle.tk_problem_text.specs.Reader.Parts.{HasParts, KeepsValue}
 use Rattle.tk_problem_text.specs.Problem.{size_of, format_in, points_of, lower_in, demands_of, depot_of}

@@ -10,12 +10,13 @@ use Rattle.tk_words.specs.Lex.{Token}
 use Rattle.tk_words.specs.TextLaws.{HasAnswers, StaysDecided}
 use Rattle.tk_lines.specs.Lists.{list_entries, list_extent}
 use Rattle.tk_lines.specs.Pieces.{After, Clean, Trailing, Early, Piece, Extent, Stop, Fault, first_at, checked, or_else}
-use Rattle.tk_lines.proofs.Answered.{AnswersSections, NotOpen, WholeTokens, not_open_checked, not_open_first}
-use Rattle.tk_lines.proofs.Answered.{not_open_or, not_open_trailing, some_decided, whole_entries}
-use Rattle.tk_lines.proofs.Growing.{Lasts, checked_grown, or_else_kept}
-use Rattle.tk_lines.proofs.Staying.{decided_stays}
-use Rattle.tk_lines.proofs.Steady.{EndsOpen, Extends, front_taken, lasts_length, list_extends, list_nothing, list_stops}
-use Rattle.tk_lines.proofs.Steady.{next_taken, one_extends, open_trailing, section_kept, stops, stops_taken}
+use Rattle.tk_lines.proofs.EndedTexts.{AnswersSections, NotOpen, WholeTokens, not_open_checked, not_open_first}
+use Rattle.tk_lines.proofs.EndedTexts.{not_open_or, not_open_trailing, some_decided, whole_entries}
+use Rattle.tk_lines.proofs.LinesAndMoreBytes.{Lasts, checked_grown, or_else_kept}
+use Rattle.tk_lines.proofs.DecidedStays.{decided_stays}
+use Rattle.tk_lines.proofs.SettledSections.{EndsOpen, Extends, front_taken, lasts_length, list_extends, list_nothing}
+use Rattle.tk_lines.proofs.SettledSections.{list_stops}
+use Rattle.tk_lines.proofs.SettledSections.{next_taken, one_extends, open_trailing, section_kept, stops, stops_taken}
 use Rattle.tk_problem_text.specs.Problem.{problem_decided, problem_extent, problem_format, problem_section, section_end}
 use Rattle.tk_problem_text.specs.Problem.{section_entries, token_tests, wanted, word_tests}
 use Rattle.tk_problem_text.specs.Sections.DepotList.{depot_end, depot_entries, depot_extent}

@@ -24,8 +24,8 @@ use Rattle.tk_lines.specs.Pieces.{end_token, has, pieces, value_of, stop, stoppe
 use Rattle.tk_problem_text.specs.Problem.{ProblemIs, problem_decided, problem_format, problem_texts, problem_value}
 use Rattle.tk_problem_text.specs.Names.{IsName}
 use Rattle.tk_words.specs.Words.{keyword_of, role}
-use Rattle.tk_lines.proofs.Answered.{all_append}
-use Rattle.tk_lines.proofs.Lines.{begins_no, behind_none, OnOneLine}
+use Rattle.tk_lines.proofs.EndedTexts.{all_append}
+use Rattle.tk_lines.proofs.KnownWordLines.{begins_no, behind_none, OnOneLine}
 use Rattle.tk_lines.proofs.Pieces.PieceValues.{value_of-append, value_of-unseen}
 
 -- ---- a trimmed text is trimmed

@@ -8,5 +8,5 @@ pub mod Kept
 pub mod Nodes
 pub mod OpenSections
 pub mod Parts
-pub mod ProblemForm
+pub mod ProblemHandler
 pub mod Weighing

@@ -1,9 +1,9 @@
 //! The values of a problem's headers.
 ghost use Rattle.std.specs.Prelude.{◌≡◌, List, ℕ};
 ghost use Rattle.tk_problem_text.specs.HeaderValues as Values;
-ghost use Rattle.tk_lines.specs.Reader.Scan.{Scans};
+ghost use Rattle.tk_lines.specs.Reader.ValueScanner.{Scans};
 
-use tk_lines::Scan;
+use tk_lines::ValueScanner;
 use tk_problem::{FORMATS, Format, PLANE_KINDS, PlaneKind};
 
 /// The types of problems that are supported.
@@ -28,7 +28,7 @@ pub enum WeightFormat {
 }
 
 /// The value of TYPE; `None` if it is not supported.
-pub fn problem_type_of(value: &Scan) -> Option<ProblemType>
+pub fn problem_type_of(value: &ValueScanner) -> Option<ProblemType>
     ensures { (v : List ℕ) → Scans value.now v → result ≡ Values.problem_type_of v }
 {
     if value.is(b"TSP") {
@@ -41,7 +41,7 @@ pub fn problem_type_of(value: &Scan) -> Option<ProblemType>
 }
 
 /// The value of EDGE_WEIGHT_TYPE; `None` if it is not supported.
-pub fn weight_type_of(value: &Scan) -> Option<WeightType>
+pub fn weight_type_of(value: &ValueScanner) -> Option<WeightType>
     ensures { (v : List ℕ) → Scans value.now v → result ≡ Values.weight_type_of v }
 {
     if value.is(b"EXPLICIT") {
@@ -53,7 +53,7 @@ pub fn weight_type_of(value: &Scan) -> Option<WeightType>
     }
 }
 
-fn plane_of(value: &Scan) -> Option<PlaneKind>
+fn plane_of(value: &ValueScanner) -> Option<PlaneKind>
     ensures { (v : List ℕ) → Scans value.now v → result ≡ Values.plane_of v }
 {
     PLANE_KINDS
@@ -63,7 +63,7 @@ fn plane_of(value: &Scan) -> Option<PlaneKind>
 }
 
 /// The value of EDGE_WEIGHT_FORMAT; `None` if it is not supported.
-pub fn weight_format_of(value: &Scan) -> Option<WeightFormat>
+pub fn weight_format_of(value: &ValueScanner) -> Option<WeightFormat>
     ensures { (v : List ℕ) → Scans value.now v → result ≡ Values.weight_format_of v }
 {
     if value.is(b"FUNCTION") {
@@ -75,7 +75,7 @@ pub fn weight_format_of(value: &Scan) -> Option<WeightFormat>
     }
 }
 
-fn format_of(value: &Scan) -> Option<Format>
+fn format_of(value: &ValueScanner) -> Option<Format>
     ensures { (v : List ℕ) → Scans value.now v → result ≡ Values.format_of v }
 {
     FORMATS
@@ -85,7 +85,7 @@ fn format_of(value: &Scan) -> Option<Format>
 }
 
 /// Whether a value of NODE_COORD_TYPE is supported.
-pub fn is_coordinate_type(value: &Scan) -> bool
+pub fn is_coordinate_type(value: &ValueScanner) -> bool
     ensures { (v : List ℕ) → Scans value.now v → result ≡ Values.is_coordinate_type v }
 {
     if value.is(b"TWOD_COORDS") {

@@ -6,17 +6,17 @@ ghost use Rattle.tk_words.specs.declared.fault.TextKind.{TextKind};
 ghost use Rattle.tk_words.specs.Words.{same_word};
 ghost use Rattle.tk_lines.specs.Pieces.{Piece, has, first_at, Fault};
 ghost use Rattle.tk_problem_text.specs.Reader.Kept.{KeepsHeader, ValueSays, once};
-ghost use Rattle.tk_lines.specs.Reader.Forms.{IsToldWord, a_header};
+ghost use Rattle.tk_lines.specs.Reader.Handlers.{IsReportedWord, a_header};
 ghost use Rattle.tk_problem_text.specs.Problem.{problem_header};
 ghost use Rattle.tk_words.specs.Lex.{trim, after_word};
-ghost use Rattle.tk_lines.specs.Reader.FormSteps.{RefusesHeader, TakesHeader};
+ghost use Rattle.tk_lines.specs.Reader.HandlerSteps.{RefusesHeader, TakesHeader};
 
 use crate::header_values::{
     ProblemType, WeightFormat, WeightType, is_coordinate_type, problem_type_of, weight_format_of,
     weight_type_of,
 };
 use std::alloc::{AllocError, Global};
-use tk_lines::Scan;
+use tk_lines::ValueScanner;
 use tk_problem::{CAPACITY_LIMIT, CITY_LIMIT};
 use tk_words::{Keyword, TextKind};
 
@@ -42,7 +42,7 @@ fn keep<A: Copy>(kept: &mut Option<A>, said: Result<A, TextKind>) -> Result<(), 
         × (first_at n (once word ps tests) ≡ None)) }
     ensures err { (word : Keyword) (f : List ℕ → Option A) (tests : List (Bool × TextKind)) (ps : List Piece)
         (v : List ℕ) (n : ℕ) → KeepsHeader word f kept.old ps → ValueSays f tests v said
-        → IfErr result (IsToldWord (λ k. first_at n (once word ps tests) ≡ Some (Fault n k))) }
+        → IfErr result (IsReportedWord (λ k. first_at n (once word ps tests) ≡ Some (Fault n k))) }
 {
     if kept.is_some() {
         return Err(TextKind::Repeated);
@@ -95,7 +95,12 @@ impl Headers {
     /// # Errors
     /// The first fault of the header: `Repeated`, `Unsupported`, `BadNumber`, `OutOfLimit` or `TooLong`, or `NoMemory`
     /// if memory runs out.
-    pub fn take(&mut self, alloc: Global, word: Keyword, value: &Scan) -> Result<(), TextKind>
+    pub fn take(
+        &mut self,
+        alloc: Global,
+        word: Keyword,
+        value: &ValueScanner,
+    ) -> Result<(), TextKind>
         ensures ok { TakesHeader HasHeaders problem_header word value.now self.old self.new result }
         ensures err { RefusesHeader HasHeaders problem_header word value.now self.old result }
     {
@@ -130,7 +135,7 @@ impl Headers {
     }
 
     /// Takes the value of NAME.
-    fn take_name(&mut self, alloc: Global, value: &Scan) -> Result<(), TextKind>
+    fn take_name(&mut self, alloc: Global, value: &ValueScanner) -> Result<(), TextKind>
         ensures ok { TakesHeader HasHeaders problem_header words.Name value.now self.old self.new result }
         ensures err { RefusesHeader HasHeaders problem_header words.Name value.now self.old result }
     {
@@ -146,7 +151,7 @@ impl Headers {
             → length name.now ≤ 1024 → IfOk result (λ _. HasHeaders self.new (ps ++ a_header words.Name v n)
             × (has words.Name ps ≡ false)) }
         ensures err { (ps : List Piece) → HasHeaders self.old ps
-            → IfErr result (IsToldWord (λ k. (k ≡ TextKind.Repeated) × (has words.Name ps ≡ true))) }
+            → IfErr result (IsReportedWord (λ k. (k ≡ TextKind.Repeated) × (has words.Name ps ≡ true))) }
     {
         if self.has_name {
             return Err(TextKind::Repeated);

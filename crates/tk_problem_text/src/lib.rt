@@ -5,7 +5,7 @@ mod header_values;
 mod headers;
 mod laws;
 mod parts;
-mod problem_form;
+mod problem_handler;
 mod problem_text;
 mod sections;
 

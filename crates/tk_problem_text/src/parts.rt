@@ -2,20 +2,20 @@
 ghost use Rattle.std.specs.Prelude.{◌≡◌, ◌≤◌, ◌<◌, ◌-◌, ◌^◌, ℕ, List, [], Some, None, IfOk, IfSome};
 ghost use Rattle.std.specs.Prelude.{length, slice_index};
 ghost use Rattle.tk_lines.specs.Pieces.{Piece};
-ghost use Rattle.tk_lines.specs.Reader.Forms.{IsToldWord};
+ghost use Rattle.tk_lines.specs.Reader.Handlers.{IsReportedWord};
 ghost use Rattle.tk_problem_text.specs.Problem.{problem_header, problem_end, first_kind, weights_ends, routing_ends_of};
 ghost use Rattle.tk_problem_text.specs.Problem.{over_capacity};
 ghost use Rattle.tk_problem_text.specs.Reader.Parts.{MakesWeights, MakesRouting, weights_in};
 ghost use Rattle.tk_problem_text.specs.ProblemOf.{weights_are, routing_is};
 ghost use Rattle.tk_problem_text.specs.Reader.Parts.{routing_in};
 ghost use Rattle.tk_problem.specs.Shape.{WeightsFit, RoutingFits};
-ghost use Rattle.tk_lines.specs.Reader.FormSteps.{RefusesHeader, TakesHeader};
+ghost use Rattle.tk_lines.specs.Reader.HandlerSteps.{RefusesHeader, TakesHeader};
 ghost use Rattle.tk_problem_text.specs.Reader.Parts.{KeepsDemand, KeepsDepot, KeepsLower, KeepsPlaces, NotesDisplay};
 
 use crate::header_values::{ProblemType, WeightType};
 use crate::headers::Headers;
 use std::alloc::{AllocError, Global};
-use tk_lines::Scan;
+use tk_lines::ValueScanner;
 use tk_problem::{Points, Problem, Routing, Weights};
 use tk_words::{Keyword, TextKind};
 
@@ -61,7 +61,7 @@ impl Parts {
         &mut self,
         alloc: Global,
         word: Keyword,
-        value: &Scan,
+        value: &ValueScanner,
     ) -> Result<(), TextKind>
         ensures ok { TakesHeader HasParts problem_header word value.now self.old self.new result }
         ensures err { RefusesHeader HasParts problem_header word value.now self.old result }
@@ -107,7 +107,7 @@ impl Parts {
     /// The fault at the end of the text, if there is one.
     pub fn end(&self) -> Option<TextKind>
         ensures fault { (ps : List Piece) → HasParts self.now ps
-            → IfSome result (IsToldWord (λ k. problem_end ps ≡ Some k)) }
+            → IfSome result (IsReportedWord (λ k. problem_end ps ≡ Some k)) }
         ensures none { (ps : List Piece) → HasParts self.now ps → result ≡ None → problem_end ps ≡ None }
     {
         if self.headers.problem_type.is_none() {
@@ -148,7 +148,7 @@ impl Parts {
     /// The fault of the weights at the end of the text, if there is one.
     fn weights_end(&self) -> Option<TextKind>
         ensures fault { (ps : List Piece) → HasParts self.now ps
-            → IfSome result (IsToldWord (λ k. first_kind (weights_ends ps) ≡ Some k)) }
+            → IfSome result (IsReportedWord (λ k. first_kind (weights_ends ps) ≡ Some k)) }
         ensures none { (ps : List Piece) → HasParts self.now ps → result ≡ None → first_kind (weights_ends ps) ≡ None }
     {
         match self.headers.weight_type {
@@ -173,7 +173,7 @@ impl Parts {
     /// The fault of the routing at the end of the text, if there is one; `None` for a TSP.
     fn routing_end(&self) -> Option<TextKind>
         ensures fault { (ps : List Piece) → HasParts self.now ps
-            → IfSome result (IsToldWord (λ k. first_kind (routing_ends_of ps) ≡ Some k)) }
+            → IfSome result (IsReportedWord (λ k. first_kind (routing_ends_of ps) ≡ Some k)) }
         ensures none { (ps : List Piece) → HasParts self.now ps → result ≡ None
             → first_kind (routing_ends_of ps) ≡ None }
     {

@@ -5,7 +5,7 @@ ghost use Rattle.tk_problem_text.specs.ProblemOf.{problem_is};
 ghost use Rattle.tk_problem_text.specs.Problem.{problem_texts};
 ghost use Rattle.tk_problem_text.specs.Names.{IsName};
 
-use crate::problem_form::ProblemForm;
+use crate::problem_handler::ProblemHandler;
 use std::alloc::Global;
 use tk_lines::PieceReader;
 use tk_problem::Problem;
@@ -21,7 +21,7 @@ pub fn read_problem<R: Source>(alloc: Global, source: &mut R) -> Result<Problem,
     ensures reads { IsReading R.Source problem_texts problem_is source.old source.new result }
     ensures named { IfOk result (λ problem. IsName (problem_is problem).name) }
 {
-    match ProblemForm::new(alloc) {
+    match ProblemHandler::new(alloc) {
         Ok(form) => read_text(source, PieceReader::new(form)),
         Err(_) => Err(TextFault {
             line: 1,

@@ -5,7 +5,7 @@ use Rattle.std.specs.Prelude.{if◌then◌else◌}
 use Rattle.std.proofs.Math.Nat.{mul-add, mul-le-mul_left}
 use Rattle.std.proofs.lemmas.Int.{ints}
 use Rattle.rand_core.specs.Stream.{Stream}
-use Rattle.tk_descent.proofs.WakeRuns.Woken.{one_to-length}
+use Rattle.tk_descent.proofs.WakeExecutions.WokenQueue.{one_to-length}
 use Rattle.tk_search.specs.Cuts.{kick_swaps}
 use Rattle.tk_search.proofs.SearchTrials.Searches.{few_ends}
 use Rattle.tk_tour.specs.Tour.{tour_length}
@@ -19,7 +19,7 @@ use Rattle.tk_ring_search.specs.declared.kicks.kick.Kick.{Kick}
 use Rattle.tk_ring_search.specs.declared.trials.judging.Outcome.{Outcome}
 use Rattle.tk_ring_search.specs.declared.trials.judging.Outcome.TheVariants.{Idle, Better, Kept, Undone, Restored}
 use Rattle.tk_ring_search.specs.declared.trials.totals.RingTrial.{RingTrial}
-use Rattle.tk_ring_search.proofs.Runs.{descends_by, given_run, length_from, rings_run}
+use Rattle.tk_ring_search.proofs.TrialRuns.{descends_by, given_run, length_from, rings_run}
 
 -- bounds by the same factor
 at_most : (p x y t : ℕ) → t ≤ p * x → x ≤ y → t ≤ p * y

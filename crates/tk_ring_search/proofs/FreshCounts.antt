@@ -1,17 +1,18 @@
 -- Descents whose tests are counted from 0.
 use Rattle.std.proofs.Common.{◌≡◌, ℕ, ◌-◌, Bool, List, subst, arith}
-use Rattle.tk_descent.specs.Descents.{DescentUnder, Stand, SweepingUnder, Terms}
+use Rattle.tk_descent.specs.Descents.{DescentUnder, DescentState, SweepingUnder, DescentInput}
 use Rattle.tk_descent.specs.declared.descent.Report.{Report}
 use Rattle.tk_descent.specs.declared.offer.Offer.{Offer}
 use Rattle.tk_descent.specs.declared.sweep.SweptReport.{SweptReport}
 
-abbrev pub after_tests : Stand → ℕ → Stand
+abbrev pub after_tests : DescentState → ℕ → DescentState
 after_tests s tests = record { tour = s.tour; awake = s.awake; tests = tests; swaps = s.swaps; flips = s.flips }
 
-abbrev pub by_distance : Terms → (ℕ → ℕ → ℕ) → Terms
+abbrev pub by_distance : DescentInput → (ℕ → ℕ → ℕ) → DescentInput
 by_distance by distance = record { distance = distance; near = by.near; or_segment = by.or_segment }
 
-module _ (fits : List ℕ → Type 0) (may : List ℕ → Offer → Bool) (by : Terms) (distance : ℕ → ℕ → ℕ) (from to : Stand)
+module _ (fits : List ℕ → Type 0) (may : List ℕ → Offer → Bool) (by : DescentInput) (distance : ℕ → ℕ → ℕ)
+    (from to : DescentState)
     (same : by.distance ≡ distance) (none : from.tests ≡ 0) where
   pub fresh_once : (report : Report) → DescentUnder fits may by from to report →
       DescentUnder fits may (by_distance by distance) (after_tests from 0) (after_tests to report.tests) report

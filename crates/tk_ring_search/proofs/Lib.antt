@@ -1,6 +1,6 @@
 pub mod BoundedRuns
 pub mod FreshCounts
 pub mod NextTrials
-pub mod Parts
-pub mod Runs
-pub mod Settling
+pub mod KickParts
+pub mod TrialRuns
+pub mod TrialResults

@@ -7,8 +7,8 @@ use Rattle.std.specs.Prelude.{◌≡◌, ℕ, ◌+◌, ◌<◌, ◌≤◌, List,
 use Rattle.std.proofs.Props.{props}
 use Rattle.rand_core.specs.Stream.{Stream}
 use Rattle.tk_descent.specs.Awake.{one_to, woken_each}
-use Rattle.tk_descent.specs.Descents.{Stand}
-use Rattle.tk_descent.specs.Steps.{AreTrueOf}
+use Rattle.tk_descent.specs.Descents.{DescentState}
+use Rattle.tk_descent.specs.EdgeCache.{AreTrueOf}
 use Rattle.tk_descent.specs.declared.sweep.SweptReport.{SweptReport}
 use Rattle.tk_search.specs.Cuts.{kick_swaps}
 use Rattle.tk_tour.specs.Counters.{saturated}
@@ -46,7 +46,7 @@ searching given state = record {
 }
 
 -- the second ring comes from the first by so many flips and swaps, which are counted
-pub record IsByFlips (from to : Stand) : Type 0 where
+pub record IsByFlips (from to : DescentState) : Type 0 where
   pub flips : ℕ
   pub swaps : ℕ
   pub reversed : AreReversed from.tour to.tour flips swaps
@@ -56,8 +56,8 @@ pub record IsByFlips (from to : Stand) : Type 0 where
 -- a search after the first descent, from a ring with all elements awake: its result is the current ring and the best
 pub record IsBegun (given : Given) (start : List ℕ) (search : RingSearching) : Type 0 where
   pub given_is : search.given ≡ given
-  pub from : Stand
-  pub to : Stand
+  pub from : DescentState
+  pub to : DescentState
   pub report : SweptReport
   pub descends : DescendsRing given from to report.descent report.passes
   pub tour : from.tour ≡ start
@@ -81,8 +81,8 @@ slots_for n = n + 1000
 -- ring and this best ring.
 pub record IsKickedDescent (old : RingSearching) (kick : Kick) (swaps : ℕ) (ring best : List ℕ) (trial : RingTrial) :
     Type 0 where
-  pub from : Stand
-  pub to : Stand
+  pub from : DescentState
+  pub to : DescentState
   pub tour : SameCycle from.tour (kicked kick old.ring)
   pub awake : from.awake ≡ woken_each [] (ends_of kick old.ring)
   pub tests : from.tests ≡ 0

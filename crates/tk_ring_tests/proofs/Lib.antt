@@ -1,2 +1,2 @@
-pub mod Filled
-pub mod Elements
+pub mod FilledRoutes
+pub mod TourElements

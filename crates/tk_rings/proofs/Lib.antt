@@ -1,8 +1,8 @@
-pub mod Allowing
-pub mod Meetings
-pub mod Placing
+pub mod AllowedOffers
+pub mod MeetingRoutes
+pub mod InsertedRoutes
 pub mod RingNodes
 pub mod RingPaths
 pub mod RingsMade
 pub mod RoutesRead
-pub mod Walks
+pub mod DepotWalks

@@ -8,7 +8,7 @@ use Rattle.std.proofs.lemmas.List.{map-append}
 use Rattle.std.proofs.lemmas.List.Elements.{All-cons, All-head, All-nil, All-tail}
 use Rattle.std.proofs.lemmas.List.Sums.{sum_by-append, sum_by-cons}
 use Rattle.tk_tour.specs.Tour.{IsRotation, occurrences, walk}
-use Rattle.tk_tour.proofs.Once.{occurrences-append}
+use Rattle.tk_tour.proofs.DistinctCycles.{occurrences-append}
 use Rattle.tk_tour.proofs.Tours.{occurrences-nil, occurrences-other}
 use Rattle.tk_rings.specs.Capacities.{demand_in, is_copy, loads_of}
 use Rattle.tk_rings.specs.Rings.{copy, whole, join, is_closed}

@@ -10,10 +10,10 @@ use Rattle.std.proofs.lemmas.List.Elements.{All-cons, All-head, All-nil, All-tai
 use Rattle.std.proofs.lemmas.List.Sums.{sum_by-cons}
 use Rattle.tk_distance.specs.Cities.{IsCity, city_at}
 use Rattle.tk_tour.specs.Tour.{IsTour, occurrences, walk, tour_length}
-use Rattle.tk_tour.proofs.Once.{occurrences-append}
+use Rattle.tk_tour.proofs.DistinctCycles.{occurrences-append}
 use Rattle.tk_tour.proofs.Tours.{occurrences-same, occurrences-other, occurrences-outside}
 use Rattle.tk_descent.specs.Awake.{one_to}
-use Rattle.tk_descent.proofs.WakeRuns.Woken.{one_to-length}
+use Rattle.tk_descent.proofs.WakeExecutions.WokenQueue.{one_to-length}
 use Rattle.tk_routes.specs.Instance.{Instance, customer_count, demand_of, node_of}
 use Rattle.tk_routes.specs.Routes.{AreRoutes, IsLight, route_load, route_length, routes_cost}
 use Rattle.tk_routes.proofs.CutLists.{All-front, All-back}
@@ -23,7 +23,7 @@ use Rattle.tk_rings.specs.Capacities.{demand_in, is_copy, loads_of, IsFitting}
 use Rattle.tk_rings.specs.Rings.{copy, whole, join, is_closed}
 use Rattle.tk_rings.specs.RingRoutes.{ring_from, ring_of, demands_of, ring_nodes, ring_distance}
 use Rattle.tk_rings.specs.StretchLaws.{st-append, st-plain}
-use Rattle.tk_rings.proofs.Meetings.{from_test}
+use Rattle.tk_rings.proofs.MeetingRoutes.{from_test}
 use Rattle.tk_rings.proofs.RingNodes.{one_to-at, node-copy, nodes-customers, walk-through}
 
 -- one more route at the end

@@ -16,9 +16,9 @@ use Rattle.std.proofs.lemmas.List.Sorted.{All-permutation, length_permutation, s
 use Rattle.std.proofs.lemmas.List.Sums.{sum_by-cons}
 use Rattle.tk_distance.specs.Cities.{IsCity, city_at}
 use Rattle.tk_near.specs.Keeping.{Climbing, insert_by}
-use Rattle.tk_near.proofs.Inserting.{IsPermutation-insert_by, Climbing-insert_by}
+use Rattle.tk_near.proofs.SortedInsertion.{IsPermutation-insert_by, Climbing-insert_by}
 use Rattle.tk_tour.specs.Tour.{IsTour, IsRotation, SameCycle, occurrences, walk, tour_length}
-use Rattle.tk_tour.proofs.Once.{occurrences-append, occurrences-reverse, occurrences-rotation}
+use Rattle.tk_tour.proofs.DistinctCycles.{occurrences-append, occurrences-reverse, occurrences-rotation}
 use Rattle.tk_tour.proofs.Tours.{occurrences-nil, occurrences-index, occurrences-outside, occurrences-other}
 use Rattle.tk_tour.proofs.Tours.{inside_or_not, city_in_range, HoldsOnce-tour}
 use Rattle.tk_tour.proofs.Cycle.{IsRotation-append, IsRotation-trans}
@@ -30,12 +30,12 @@ use Rattle.tk_routes.specs.Routes.{AreRoutes, IsLight, route_length, routes_cost
 use Rattle.tk_routes.proofs.CutLists.{All-front, All-back}
 use Rattle.tk_routes.proofs.Improving.ReadOffs.{IsTour-cycle}
 use Rattle.tk_routes.proofs.Improving.Renumbered.{tour_length-map}
-use Rattle.tk_routes.proofs.Served.{IsTour-served}
+use Rattle.tk_routes.proofs.ServedCustomers.{IsTour-served}
 use Rattle.tk_rings.specs.Capacities.{demand_in, is_copy, IsFitting}
 use Rattle.tk_rings.specs.RingRoutes.{demands_of, first_of, paths_from, paths_of}
 use Rattle.tk_rings.specs.RingRoutes.{ring_distance, ring_nodes, turned_route}
 use Rattle.tk_rings.specs.StretchLaws.{fits-cycle}
-use Rattle.tk_rings.proofs.Meetings.{from_test}
+use Rattle.tk_rings.proofs.MeetingRoutes.{from_test}
 use Rattle.tk_rings.proofs.RingNodes.{node-copy, nodes-customers}
 use Rattle.tk_rings.proofs.RingPaths.{Begun, begun_of, occurrences-paths, copies-paths, length-paths, walk-paths}
 use Rattle.tk_rings.proofs.RingPaths.{by_copy, light-ring}

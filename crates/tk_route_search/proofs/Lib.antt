@@ -1,8 +1,8 @@
 pub mod FirstCheapest
-pub mod Inputs
-pub mod Kept
+pub mod RunInputs
+pub mod RunsSoFar
 pub mod ShownRoutes
-pub mod Solved
-pub mod Sound
-pub mod Standing
+pub mod SearchResults
+pub mod ResultsOfRuns
+pub mod RunFacts
 pub mod Watched

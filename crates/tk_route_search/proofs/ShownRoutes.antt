@@ -12,13 +12,13 @@ use Rattle.tk_tour.specs.Tour.{tour_length}
 use Rattle.tk_ring_search.specs.Given.{Given}
 use Rattle.tk_ring_search.specs.Searching.{RingSearching, IsBegun, begin, trial}
 use Rattle.tk_ring_search.specs.Totals.{is_better}
-use Rattle.tk_ring_search.proofs.Runs.{given_run}
+use Rattle.tk_ring_search.proofs.TrialRuns.{given_run}
 use Rattle.tk_route_search.specs.declared.watch.RouteProgress.{RouteProgress}
 use Rattle.tk_route_search.specs.Events.{Event, Tried, Ended}
 use Rattle.tk_route_search.specs.Runs.{Run, Trials, descended, tried, IsRun, AreRuns, none, more, report_of, shown_of}
 use Rattle.tk_route_search.specs.Tasks.{RouteTask, IsInput, IsRing, copies_in}
 use Rattle.tk_route_search.specs.Watching.{AreShown, AreShownRoutes, trial_event}
-use Rattle.tk_route_search.proofs.Standing.{best_stands, own_size}
+use Rattle.tk_route_search.proofs.RunFacts.{best_stands, own_size}
 use Rattle.tk_route_search.proofs.Watched.{run_of, shown_of_more}
 
 -- the progress that is shown with a trial

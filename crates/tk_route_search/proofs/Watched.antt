@@ -8,7 +8,7 @@ use Rattle.tk_ring_search.specs.Searching.{RingSearching, RingRun, begin, trial}
 use Rattle.tk_route_search.specs.Events.{Event, Tried}
 use Rattle.tk_route_search.specs.Runs.{Run, Trials, descended, tried, shown_of}
 use Rattle.tk_route_search.specs.Tasks.{RouteTask}
-use Rattle.tk_route_search.specs.Watching.{AreShown, IsTold, WereShown, nothing, next, trial_event}
+use Rattle.tk_route_search.specs.Watching.{AreShown, IsReported, WereShown, nothing, next, trial_event}
 
 -- trials that are shown are trials of a search
 pub run_of : {task : RouteTask} {j : ℕ} {begun : RingSearching} {words : Stream} {t : ℕ} {shown : List Event}
@@ -35,7 +35,7 @@ shown_of_more runs run = flat_map-append (λ (r : Run). r.shown) runs (run ∷ [
 pub shown_trial : {W : Type 0} {shows : W → Event → W → Type 0} {old new : W} {k : ℕ} {x y : ℤ} {best : List ℕ}
     {b : Bool}
     (task : RouteTask) (j t : ℕ) (search : RingSearching) (is_new : Bool) (cost : ℤ) →
-    IsTold shows k (record {
+    IsReported shows k (record {
       run = j + 1;
       runs = task.runs;
       trial = t;
@@ -46,7 +46,8 @@ pub shown_trial : {W : Type 0} {shows : W → Event → W → Type 0} {old new :
     b ≡ is_new → x ≡ cost → y ≡ pos (tour_length search.given.distance search.best) → best ≡ search.best →
     (better : Option (List (List ℕ)))
     × (AreShown is_new k search.best better × shows old (trial_event task j t cost search better) new)
-shown_trial {shows = shows} {old = old} {new = new} {k = k} {y = y} {best = best} task j t search is_new cost told flag
+shown_trial {shows = shows} {old = old} {new = new} {k = k} {y = y} {best = best} task j t search is_new cost reported
+    flag
     costs bests same =
     let shortest : ℤ = pos (tour_length search.given.distance search.best) in
     let event : ℤ → ℤ → Event = λ v w.
@@ -57,12 +58,13 @@ shown_trial {shows = shows} {old = old} {new = new} {k = k} {y = y} {best = best
       trials = task.trials;
       cost = v;
       best = w;
-    }) told.better in
-    let routes : AreShown is_new k search.best told.better =
-    subst (λ v. AreShown is_new k v told.better) same (subst (λ v. AreShown v k best told.better) flag told.routes) in (
-      told.better,
+    }) reported.better in
+    let routes : AreShown is_new k search.best reported.better =
+    subst (λ v. AreShown is_new k v reported.better) same (subst (λ v. AreShown v k best reported.better) flag
+    reported.routes) in (
+      reported.better,
       (
         routes,
-        subst (λ w. shows old (event cost w) new) bests (subst (λ v. shows old (event v y) new) costs told.shown),
+        subst (λ w. shows old (event cost w) new) bests (subst (λ v. shows old (event v y) new) costs reported.shown),
       ),
     )

@@ -1,6 +1,6 @@
 -- The events that an observer of a search for routes is shown.
 --     AreShown is_new k best better      the routes of the best ring, if they are new
---     IsTold shows k progress best is_new old new      an observer was shown a trial
+--     IsReported shows k progress best is_new old new      an observer was shown a trial
 --     trial_event task j t cost search better      the event of trial t of run j
 --     AreShownRoutes i event      routes that are shown are valid
 --     WereShown shows old new shown      an observer was shown these events, one after another, and no others
@@ -22,7 +22,7 @@ AreShown false k best better = better ≡ None
 
 -- An observer was shown a trial, with the routes of the best ring if they are new; `shows` is the effect of an event on
 -- it.
-pub record IsTold {W : Type 0} (shows : W → Event → W → Type 0) (k : ℕ) (progress : RouteProgress) (best : List ℕ)
+pub record IsReported {W : Type 0} (shows : W → Event → W → Type 0) (k : ℕ) (progress : RouteProgress) (best : List ℕ)
     (is_new : Bool) (old new : W) : Type 0 where
   pub better : Option (List (List ℕ))
   pub routes : AreShown is_new k best better

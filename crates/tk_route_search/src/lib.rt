@@ -1,6 +1,7 @@
 //! The search between routes of a CVRP, between reading and writing: a start, runs of trials, and the best routes.
 #![tactic(auto)]
 
+mod copied;
 mod ladder;
 mod options;
 mod outcome;
@@ -12,4 +13,4 @@ mod watch;
 pub use options::{RouteStart, SearchOptions};
 pub use outcome::RouteRun;
 pub use routes::{SolvedRoutes, search_routes};
-pub use watch::{RouteProgress, RouteWatch, Unwatched};
+pub use watch::{NoObserver, RouteProgress, RouteWatch};

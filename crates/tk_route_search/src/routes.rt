@@ -1,6 +1,10 @@
 //! The runs of a search for routes.
 ghost use Rattle.std.specs.Prelude.{◌≡◌, ◌≤◌, IfOk, length};
+ghost use Rattle.tk_problem.specs.PlacesOf.{places_of};
+ghost use Rattle.tk_problem.specs.declared.points.Places.TheVariants.{Whole};
+ghost use Rattle.tk_problem.specs.declared.weights.PlaneKind.TheVariants.{Euc2d};
 ghost use Rattle.tk_lists.specs.Solution.{lists_of};
+ghost use Rattle.tk_distance.specs.PlaneOf.{city_distance};
 ghost use Rattle.tk_routes.specs.Cvrps.{instance_of};
 ghost use Rattle.tk_routes.specs.Instance.{customer_count};
 ghost use Rattle.tk_routes.specs.Routes.{AreRoutes};
@@ -10,13 +14,14 @@ ghost use Rattle.tk_route_search.specs.SolvedRoutes.{AreSolved, AreSound};
 ghost use Rattle.tk_route_search.specs.Tasks.{AreCandidates, AreGiven, IsRing, IsStart, copies_in, task_of};
 ghost use Rattle.tk_route_search.specs.Watching.{WereShown};
 
+use crate::copied::{Copied, copied_points};
 use crate::ladder::cheapest;
 use crate::options::{RouteStart, SearchOptions};
 use crate::outcome::{Outcome, RouteRun};
 use crate::start::filled;
 use crate::watch::RouteWatch;
 use std::alloc::{AllocError, Global};
-use tk_distance::{Metric, Sub, Table};
+use tk_distance::{Euclid, Metric, Sub, Table};
 use tk_near::{Near, near_among};
 use tk_ring_search::RingTerms;
 use tk_rings::{Capacity, ring_demands, ring_nodes, ring_of, routes_of};
@@ -138,6 +143,33 @@ fn run_over<M: Metric, W: RouteWatch>(
     run_ring(alloc, cvrp, &Sub::new(metric, &nodes), ring, options, watch)
 }
 
+/// Like `run_over`, for points in whole numbers of a unit, which are copied in the order of the ring's elements.
+fn run_over_plane<W: RouteWatch>(
+    alloc: Global,
+    cvrp: &Cvrp<'_>,
+    plane: Euclid<'_>,
+    ring: &[u32],
+    options: &SearchOptions<'_>,
+    watch: &mut W,
+) -> Result<Outcome, AllocError>
+    requires size { length plane.places.now ≡ (instance_of cvrp.now).size }
+    requires distance { city_distance Euc2d (places_of (Whole plane.unit plane.places))
+        ≡ (instance_of cvrp.now).distance }
+    requires ring { IsRing (instance_of cvrp.now) (length ring.now) ring.now }
+    ensures { IfOk result (AreMade (task_of cvrp.now options.now) ring.now (WereShown W.shows watch.old watch.new)) }
+{
+    let nodes = ring_nodes(alloc, cvrp, ring.len() as u32 - cvrp.customers())?;
+    let points = copied_points(alloc, &plane, &nodes)?;
+    run_ring(
+        alloc,
+        cvrp,
+        &Copied::new(plane, &nodes, &points),
+        ring,
+        options,
+        watch,
+    )
+}
+
 /// Makes all runs.
 fn run_all<W: RouteWatch>(
     alloc: Global,
@@ -151,7 +183,7 @@ fn run_all<W: RouteWatch>(
 {
     match cvrp.table() {
         Table::Planes(planes) => match planes.euclid() {
-            Some(euclid) => run_over(alloc, cvrp, &euclid, ring, options, watch),
+            Some(plane) => run_over_plane(alloc, cvrp, plane, ring, options, watch),
             None => run_over(alloc, cvrp, &planes, ring, options, watch),
         },
         Table::Triangle(triangle) => run_over(alloc, cvrp, &triangle, ring, options, watch),

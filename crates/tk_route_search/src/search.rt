@@ -11,7 +11,7 @@ ghost use Rattle.tk_solve.specs.Runs.{words_of};
 ghost use Rattle.tk_route_search.specs.Events.{Event};
 ghost use Rattle.tk_route_search.specs.Runs.{IsSearched, Trials};
 ghost use Rattle.tk_route_search.specs.Tasks.{IsInput, IsRing, task_of};
-ghost use Rattle.tk_route_search.specs.Watching.{IsTold, WereShown};
+ghost use Rattle.tk_route_search.specs.Watching.{IsReported, WereShown};
 
 use crate::options::SearchOptions;
 use crate::watch::{RouteProgress, RouteWatch};
@@ -34,7 +34,7 @@ fn tell<W: RouteWatch>(
     watch: &mut W,
 ) -> Result<(), AllocError>
     requires ring { IsRing (instance_of cvrp.now) (length best.now) best.now }
-    ensures { OnOk result (IsTold W.shows (customer_count (instance_of cvrp.now)) progress.now best.now is_new
+    ensures { OnOk result (IsReported W.shows (customer_count (instance_of cvrp.now)) progress.now best.now is_new
         watch.old watch.new) }
 {
     if !is_new {

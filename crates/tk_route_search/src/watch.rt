@@ -45,9 +45,9 @@ pub trait RouteWatch {
 
 /// An observer that does nothing.
 #[derive(Clone, Copy)]
-pub struct Unwatched;
+pub struct NoObserver;
 
-impl RouteWatch for Unwatched {
+impl RouteWatch for NoObserver {
     ghost shows = { λ old _ new. new ≡ old };
 
     fn begin(&mut self, _name: &[u8]) {}

@@ -1,7 +1,7 @@
-pub mod Costs
+pub mod RouteCosts
 pub mod CutLists
-pub mod Faults
-pub mod Filled
+pub mod FirstFaults
+pub mod FilledRoutes
 pub mod Improving
 pub mod RouteSteps
-pub mod Served
+pub mod ServedCustomers

@@ -11,9 +11,9 @@ use Rattle.tk_tour.proofs.Lengths.{way_back, way_back-step}
 use Rattle.tk_routes.specs.Instance.{Instance, node_of}
 use Rattle.tk_routes.specs.Routes.{IsLight, route_load, route_length, routes_cost}
 use Rattle.tk_routes.specs.RouteVerdicts.{AreServedOnce, IsFirstOver}
-use Rattle.tk_routes.proofs.Costs.{routes_cost-limit}
+use Rattle.tk_routes.proofs.RouteCosts.{routes_cost-limit}
 use Rattle.tk_routes.proofs.CutLists.{cut_map, map-take_more, length-before}
-use Rattle.tk_routes.proofs.Served.{AreServedOnce-part, AreServedOnce-short}
+use Rattle.tk_routes.proofs.ServedCustomers.{AreServedOnce-part, AreServedOnce-short}
 
 -- the length of the rest of a route, with the edge to its next customer and the rest after it
 pub way_back-customer : (d : ℕ → ℕ → ℕ) (depot from k : ℕ) (route : List ℕ) (node : ℕ) → k < length route →

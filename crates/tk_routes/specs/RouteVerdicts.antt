@@ -10,9 +10,9 @@ use Rattle.tk_distance.specs.Cities.{IsCity}
 use Rattle.tk_tour.specs.Tour.{occurrences}
 use Rattle.tk_routes.specs.Instance.{Instance, customer_count}
 use Rattle.tk_routes.specs.Routes.{AreRoutes, IsLight, route_load, routes_cost}
-use Rattle.tk_routes.specs.declared.claims.verdict.RouteVerdict.{RouteVerdict}
-use Rattle.tk_routes.specs.declared.claims.verdict.RouteVerdict.TheVariants.{Valid, BadCustomer, ServedTwice}
-use Rattle.tk_routes.specs.declared.claims.verdict.RouteVerdict.TheVariants.{OverCapacity, NotServed, WrongCost}
+use Rattle.tk_routes.specs.declared.checking.verdict.RouteVerdict.{RouteVerdict}
+use Rattle.tk_routes.specs.declared.checking.verdict.RouteVerdict.TheVariants.{Valid, BadCustomer, ServedTwice}
+use Rattle.tk_routes.specs.declared.checking.verdict.RouteVerdict.TheVariants.{OverCapacity, NotServed, WrongCost}
 
 -- x is on the r-th route, counted from 1, and `earlier` are the customers before it in the order of the text
 pub record StandsAt (routes : List (List ℕ)) (r x : ℕ) (earlier : List ℕ) : Type 0 where

@@ -2,14 +2,14 @@
 //! improvement one by one.
 #![tactic(auto)]
 
-mod claims;
+mod checking;
 mod cvrp;
 mod laws;
 mod routes;
 mod solving;
 
-pub use claims::check::check_routes;
-pub use claims::verdict::RouteVerdict;
+pub use checking::check::check_routes;
+pub use checking::verdict::RouteVerdict;
 pub use cvrp::Cvrp;
 pub use laws::customers_are_the_other_nodes;
 pub use routes::Routes;

@@ -5,11 +5,11 @@ use Rattle.tk_near.specs.Near.{NearLists}
 use Rattle.tk_search.specs.Searching.{Searching, searching}
 use Rattle.tk_search.specs.declared.trials.descending.SearchRules.{SearchRules}
 use Rattle.tk_search.specs.declared.trials.searching.Search.{Search}
-use Rattle.tk_search.specs.declared.trials.stand.Stand.{Stand}
-use Rattle.tk_search.specs.declared.trials.stand.Stand.TheVariants.{Array, Segments}
+use Rattle.tk_search.specs.declared.trials.any_state.AnyState.{AnyState}
+use Rattle.tk_search.specs.declared.trials.any_state.AnyState.TheVariants.{Array, Segments}
 
 -- a search, whichever store it has
-abbrev pub stands_at : (ℕ → ℕ → ℕ) → NearLists → SearchRules → Stand → Searching
+abbrev pub stands_at : (ℕ → ℕ → ℕ) → NearLists → SearchRules → AnyState → Searching
 stands_at distance near rules (Array state) = searching distance near rules state
 stands_at distance near rules (Segments state) = searching distance near rules state
 

@@ -11,7 +11,7 @@ use Rattle.tk_tour.specs.Tour.{tour_length}
 use Rattle.tk_tour.specs.declared.store.TourStore.{Ghosts}
 use Rattle.tk_tour.specs.declared.undo.UndoStore as undo
 use Rattle.tk_descent.specs.Awake.{one_to}
-use Rattle.tk_descent.specs.Steps.{AreTrueOf}
+use Rattle.tk_descent.specs.EdgeCache.{AreTrueOf}
 use Rattle.tk_tour.specs.Counters.{saturated}
 use Rattle.tk_search.specs.Best.{best_of}
 use Rattle.tk_search.specs.Cuts.{kick_swaps}

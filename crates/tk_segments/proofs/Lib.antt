@@ -1,3 +1,3 @@
-pub mod Fronts
-pub mod NoRun
+pub mod WrittenFronts
+pub mod NoSegment
 pub mod SeenTours

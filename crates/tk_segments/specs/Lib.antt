@@ -1,4 +1,4 @@
-pub mod Runs
+pub mod Segments
 pub mod SeenTours
 pub mod SegmentTours
 pub mod WriteLaws

@@ -2,8 +2,8 @@
 use Rattle.std.specs.Prelude.{◌≡◌, ℕ, ◌+◌, ◌^◌, ◌<◌, ◌≤◌, List, length, refl}
 use Rattle.std.proofs.Common.{◌∙◌, arith}
 use Rattle.tk_tour.specs.Counters.{saturated}
-use Rattle.tk_tour.specs.Tally.{Tally, OnlyFlips, OnlyFlips-refl, OnlyFlips-trans}
-use Rattle.tk_segments.specs.SeenTours.{array_of, list_of, reversal_cost, run_count_of, room_of}
+use Rattle.tk_tour.specs.TourCounters.{TourCounters, OnlyFlips, OnlyFlips-refl, OnlyFlips-trans}
+use Rattle.tk_segments.specs.SeenTours.{array_of, list_of, reversal_cost, segment_count_of, room_of}
 use Rattle.tk_segments.specs.Writes.{changed}
 use Rattle.tk_segments.specs.WriteLaws.{changed-refl, changed-trans}
 use Rattle.tk_segments.specs.declared.tour.SegmentTour.{SegmentTour}
@@ -35,7 +35,7 @@ seen_array tour = array_of tour.seen
 
 -- the number of segments, and their maximum number
 abbrev pub segments_of : SegmentTour → ℕ
-segments_of tour = run_count_of tour.seen
+segments_of tour = segment_count_of tour.seen
 
 abbrev pub most_of : SegmentTour → ℕ
 most_of tour = room_of tour.seen + 2
@@ -45,7 +45,7 @@ most_of tour = room_of tour.seen + 2
 abbrev pub write_cost : SegmentTour → ℕ → ℕ
 write_cost tour count = reversal_cost tour.seen count
 
-abbrev pub seen_tally : SegmentTour → Tally
+abbrev pub seen_tally : SegmentTour → TourCounters
 seen_tally tour = record {
   cities = seen_order tour;
   swaps = seen_swaps tour;

@@ -9,9 +9,9 @@ changed (x ∷ xs) (y ∷ ys) = (if x == y then 0 else 1) + changed xs ys
 
 -- The swaps pay for the writes: an array of n positions can be rewritten each time that there are `room` more segments.
 -- Twice `room` times the swaps is at least `room` times the writes plus n for each segment after the first.
-pub record ArePaid (n room writes runs swaps : ℕ) : Type 0 where
-  pub some : 1 ≤ runs
-  pub paid : room * writes + n * (runs - 1) ≤ 2 * (room * swaps)
+pub record ArePaid (n room writes segments swaps : ℕ) : Type 0 where
+  pub some : 1 ≤ segments
+  pub paid : room * writes + n * (segments - 1) ≤ 2 * (room * swaps)
 
 -- the swaps of reversals of more than `short` positions pay for rewriting an array of n positions, with at most `most`
 -- segments

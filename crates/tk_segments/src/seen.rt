@@ -1,18 +1,18 @@
 //! A tour in an array that is divided into segments.
 ghost use Rattle.std.specs.Prelude.{◌≡◌, ◌≤◌, ◌<◌, ◌+◌, ◌-◌, ◌*◌, ◌/◌, ℕ, length, slice_index, vec_len};
 ghost use Rattle.tk_distance.specs.Cities.{IsCity};
-ghost use Rattle.tk_tour.specs.Around.{AreAround};
+ghost use Rattle.tk_tour.specs.Neighbourhood.{IsNeighbourhood};
 ghost use Rattle.tk_tour.specs.Places.{IsPlaceFrom};
 ghost use Rattle.tk_tour.specs.Reversal.{IsInverse, begun_at, reversed_places};
-ghost use Rattle.tk_segments.specs.Runs.{shown};
+ghost use Rattle.tk_segments.specs.Segments.{shown};
 ghost use Rattle.tk_tour.specs.Tour.{IsSizedTour, next_city, prev_city};
 ghost use Rattle.tk_segments.specs.Writes.{ArePaid, changed};
 
 use crate::exchanging::exchange_seen;
-use crate::runs::Runs;
+use crate::segments::Segments;
 use crate::spots::Spot;
 use crate::writing::write_seen;
-use tk_tour::{Around, Placed, place_each};
+use tk_tour::{Neighbourhood, Positions, place_each};
 
 /// The cities of a tour in an array that is divided into segments. The tour begins at position `begin` of the sequence.
 /// A reversal of at most `short` positions swaps cities, and a longer one reverses segments.
@@ -21,18 +21,18 @@ pub struct SeenTour {
     order: Vec<u32>,
     place: Vec<u32>,
     spare: Vec<u32>,
-    runs: Runs,
+    segments: Segments,
     begin: u32,
     short: u32,
-    ghost tour: { IsSizedTour (begun_at begin (shown order.items runs.runs.items)) },
+    ghost tour: { IsSizedTour (begun_at begin (shown order.items segments.segments.items)) },
     ghost inverse: { IsInverse order.items place.items },
-    ghost sizes: { (length order.items ≡ runs.size) × (length spare.items ≡ runs.size) },
-    ghost begins: { begin < runs.size },
-    ghost enough: { runs.size ≤ (runs.most - 2) * ((short + 1) / 2) },
-    ghost some: { 3 ≤ runs.most },
+    ghost sizes: { (length order.items ≡ segments.size) × (length spare.items ≡ segments.size) },
+    ghost begins: { begin < segments.size },
+    ghost enough: { segments.size ≤ (segments.most - 2) * ((short + 1) / 2) },
+    ghost some: { 3 ≤ segments.most },
 }
 
-impl Placed for SeenTour {
+impl Positions for SeenTour {
     ghost use Rattle.tk_segments.specs.SeenTours.{list_of};
 
     ghost cities = { list_of };
@@ -46,7 +46,7 @@ impl Placed for SeenTour {
     }
 
     fn place_of(&self, c: u32) -> u32 {
-        let (_, v) = self.runs.spot_of(self.place[c as usize - 1]);
+        let (_, v) = self.segments.spot_of(self.place[c as usize - 1]);
         if v < self.begin {
             v + self.size() - self.begin
         } else {
@@ -59,30 +59,30 @@ impl Placed for SeenTour {
 
 impl SeenTour {
     ghost use Rattle.tk_segments.specs.SeenTours.{IsReversed, SeesAt, array_of, list_of, room_cost, room_of};
-    ghost use Rattle.tk_segments.specs.SeenTours.{run_count_of};
+    ghost use Rattle.tk_segments.specs.SeenTours.{segment_count_of};
 
     /// A tour in the order of `order`.
     pub fn new(
         order: Vec<u32>,
         place: Vec<u32>,
         spare: Vec<u32>,
-        runs: Runs,
+        segments: Segments,
         short: u32,
     ) -> SeenTour
         requires tour { IsSizedTour order.items }
         requires inverse { IsInverse order.items place.items }
-        requires sizes { (length order.items ≡ runs.size) × (length spare.items ≡ runs.size) }
-        requires shown { shown order.items runs.runs.items ≡ order.items }
-        requires enough { (3 ≤ runs.most) × (runs.size ≤ (runs.most - 2) * ((short + 1) / 2)) }
+        requires sizes { (length order.items ≡ segments.size) × (length spare.items ≡ segments.size) }
+        requires shown { shown order.items segments.segments.items ≡ order.items }
+        requires enough { (3 ≤ segments.most) × (segments.size ≤ (segments.most - 2) * ((short + 1) / 2)) }
         ensures list { list_of result ≡ order.items }
-        ensures runs { run_count_of result ≡ vec_len runs.runs }
-        ensures room { room_of result ≡ runs.most - 2 }
+        ensures segments { segment_count_of result ≡ vec_len segments.segments }
+        ensures room { room_of result ≡ segments.most - 2 }
     {
         SeenTour {
             order,
             place,
             spare,
-            runs,
+            segments,
             begin: 0,
             short,
         }
@@ -96,11 +96,11 @@ impl SeenTour {
     }
 
     /// The number of segments.
-    pub fn run_count(&self) -> usize
-        ensures count { result ≡ run_count_of self.now }
+    pub fn segment_count(&self) -> usize
+        ensures count { result ≡ segment_count_of self.now }
         ensures few { result ≤ room_of self.now + 2 }
     {
-        self.runs.runs.len()
+        self.segments.segments.len()
     }
 
     /// The city after c.
@@ -120,12 +120,12 @@ impl SeenTour {
     }
 
     /// The cities after and before c.
-    pub fn beside(&self, c: u32) -> (u32, u32)
+    pub fn neighbours(&self, c: u32) -> (u32, u32)
         requires { IsCity (length (list_of self.now)) c }
         ensures after { result.0 ≡ next_city (list_of self.now) c }
         ensures before { result.1 ≡ prev_city (list_of self.now) c }
     {
-        let (after, before) = self.runs.beside(self.spot_of(c));
+        let (after, before) = self.segments.neighbours(self.spot_of(c));
         (
             self.order[after.place as usize],
             self.order[before.place as usize],
@@ -133,16 +133,16 @@ impl SeenTour {
     }
 
     /// The three cities after c, and the three before it.
-    pub fn around(&self, c: u32) -> Around
+    pub fn neighbourhood(&self, c: u32) -> Neighbourhood
         requires { IsCity (length (list_of self.now)) c }
-        ensures { AreAround (list_of self.now) c result }
+        ensures { IsNeighbourhood (list_of self.now) c result }
     {
         let spot = self.spot_of(c);
         let (one_on, after) = self.after(spot);
         let (two_on, after_2) = self.after(one_on);
         let (one_back, before) = self.before(spot);
         let (two_back, before_2) = self.before(one_back);
-        Around {
+        Neighbourhood {
             after: [after, after_2, self.after(two_on).1],
             before: [before, before_2, self.before(two_back).1],
         }
@@ -153,7 +153,7 @@ impl SeenTour {
         requires { IsCity (length (list_of self.now)) c }
         ensures { SeesAt self.now c result }
     {
-        let (spot, _) = self.runs.spot_of(self.place[c as usize - 1]);
+        let (spot, _) = self.segments.spot_of(self.place[c as usize - 1]);
         spot
     }
 
@@ -163,7 +163,7 @@ impl SeenTour {
         ensures { (c : ℕ) → SeesAt self.now c spot → SeesAt self.now result.1 result.0
             × (result.1 ≡ next_city (list_of self.now) c) }
     {
-        let after = self.runs.after(spot);
+        let after = self.segments.after(spot);
         (after, self.order[after.place as usize])
     }
 
@@ -173,7 +173,7 @@ impl SeenTour {
         ensures { (c : ℕ) → SeesAt self.now c spot → SeesAt self.now result.1 result.0
             × (result.1 ≡ prev_city (list_of self.now) c) }
     {
-        let before = self.runs.before(spot);
+        let before = self.segments.before(spot);
         (before, self.order[before.place as usize])
     }
 
@@ -195,7 +195,7 @@ impl SeenTour {
         requires { k < length (list_of self.now) }
         ensures { result ≡ slice_index (list_of self.now) k }
     {
-        self.order[self.runs.spot_at(self.seen_from(k)).place as usize]
+        self.order[self.segments.spot_at(self.seen_from(k)).place as usize]
     }
 
     /// Reverses `count` positions of the list, from position `first` (counted from 0) on, and returns the number of
@@ -234,15 +234,15 @@ impl SeenTour {
     // read in the same direction.
     fn join(&mut self)
         ensures list { list_of self.new ≡ list_of self.old }
-        ensures runs { (1 ≤ run_count_of self.new) × (run_count_of self.new ≤ run_count_of self.old) }
+        ensures segments { (1 ≤ segment_count_of self.new) × (segment_count_of self.new ≤ segment_count_of self.old) }
         ensures array { array_of self.new ≡ array_of self.old }
         ensures room { room_of self.new ≡ room_of self.old }
     {
-        let first = self.runs.join();
+        let first = self.segments.join();
         self.begin = if first <= self.begin {
             self.begin - first
         } else {
-            self.begin + self.runs.size - first
+            self.begin + self.segments.size - first
         };
     }
 
@@ -256,14 +256,14 @@ impl SeenTour {
             → list_of self.new ≡ reversed_places k count (list_of self.old) }
         ensures count { result ≡ 2 * (count / 2) }
         ensures written { changed (array_of self.old) (array_of self.new) ≤ result }
-        ensures runs { run_count_of self.new ≡ run_count_of self.old }
+        ensures segments { segment_count_of self.new ≡ segment_count_of self.old }
         ensures room { room_of self.new ≡ room_of self.old }
     {
         exchange_seen(
             &mut self.order,
             &mut self.place,
-            &self.runs.runs,
-            self.runs.size,
+            &self.segments.segments,
+            self.segments.size,
             first,
             count,
         );
@@ -276,16 +276,17 @@ impl SeenTour {
         ensures list { list_of self.new ≡ list_of self.old }
         ensures begin { self.new.begin ≡ self.old.begin }
         ensures exact { result ≡ room_cost self.old }
-        ensures runs { run_count_of self.new ≤ room_of self.new }
+        ensures segments { segment_count_of self.new ≤ room_of self.new }
         ensures paid { (writes swaps : ℕ)
-            → ArePaid (length (list_of self.old)) (room_of self.old) writes (run_count_of self.old) swaps
-            → ArePaid (length (list_of self.old)) (room_of self.old) (writes + result) (run_count_of self.new) swaps }
+            → ArePaid (length (list_of self.old)) (room_of self.old) writes (segment_count_of self.old) swaps
+            → ArePaid (length (list_of self.old)) (room_of self.old) (writes + result)
+            (segment_count_of self.new) swaps }
         ensures room { room_of self.new ≡ room_of self.old }
         ensures short { self.new.short ≡ self.old.short }
         ensures small { result ≤ length (list_of self.old) }
         ensures written { changed (array_of self.old) (array_of self.new) ≤ result }
     {
-        if self.runs.runs.len() + 2 <= self.runs.most as usize {
+        if self.segments.segments.len() + 2 <= self.segments.most as usize {
             return 0;
         }
         self.rewrite();
@@ -296,20 +297,20 @@ impl SeenTour {
     pub fn rewrite(&mut self)
         ensures list { list_of self.new ≡ list_of self.old }
         ensures begin { self.new.begin ≡ self.old.begin }
-        ensures runs { run_count_of self.new ≡ 1 }
+        ensures segments { segment_count_of self.new ≡ 1 }
         ensures room { room_of self.new ≡ room_of self.old }
         ensures short { self.new.short ≡ self.old.short }
     {
         write_seen(
             &self.order,
-            &self.runs.runs,
-            self.runs.size,
+            &self.segments.segments,
+            self.segments.size,
             0,
             &mut self.spare,
         );
         std::mem::swap(&mut self.order, &mut self.spare);
         place_each(&self.order, &mut self.place);
-        self.runs.reset();
+        self.segments.reset();
     }
 
     /// Takes the order of another list of the cities, as one segment.
@@ -317,12 +318,12 @@ impl SeenTour {
         requires tour { IsSizedTour cities.now }
         requires size { length cities.now ≡ length (list_of self.old) }
         ensures list { list_of self.new ≡ cities.now }
-        ensures runs { run_count_of self.new ≡ 1 }
+        ensures segments { segment_count_of self.new ≡ 1 }
         ensures room { room_of self.new ≡ room_of self.old }
     {
         self.order.copy_from_slice(cities);
         place_each(&self.order, &mut self.place);
-        self.runs.reset();
+        self.segments.reset();
         self.begin = 0;
     }
 
@@ -333,8 +334,8 @@ impl SeenTour {
     {
         write_seen(
             &self.order,
-            &self.runs.runs,
-            self.runs.size,
+            &self.segments.segments,
+            self.segments.size,
             self.begin,
             cities,
         );
@@ -344,22 +345,22 @@ impl SeenTour {
     fn turn(&mut self, first: u32, count: u32)
         requires first { first < length (list_of self.old) }
         requires count { (0 < count) × (count ≤ length (list_of self.old)) }
-        requires room { run_count_of self.old ≤ room_of self.old }
+        requires room { segment_count_of self.old ≤ room_of self.old }
         ensures list { (k : ℕ) → k < length (list_of self.old)
             → IsPlaceFrom (length (list_of self.old)) self.old.begin k first
             → list_of self.new ≡ reversed_places k count (list_of self.old) }
-        ensures runs { run_count_of self.new ≤ run_count_of self.old + 2 }
-        ensures some { 1 ≤ run_count_of self.new }
+        ensures segments { segment_count_of self.new ≤ segment_count_of self.old + 2 }
+        ensures some { 1 ≤ segment_count_of self.new }
         ensures array { array_of self.new ≡ array_of self.old }
         ensures room { room_of self.new ≡ room_of self.old }
     {
-        let n = self.runs.size;
+        let n = self.segments.size;
         if count <= n - first {
-            self.runs.turn(first, first + count);
+            self.segments.turn(first, first + count);
             return;
         }
         let before = first + count - n;
-        self.runs.begin_and_turn(before, first - before);
+        self.segments.begin_and_turn(before, first - before);
         self.begin = if before <= self.begin {
             self.begin - before
         } else {

@@ -1,6 +1,6 @@
 //! A tour store in an array that is divided into segments.
 ghost use Rattle.std.specs.Prelude.{◌≡◌, ◌≤◌, ◌<◌, ◌+◌, ◌-◌, ◌*◌, ◌/◌, ◌^◌, OnOk, IfOk, IfErr, length};
-ghost use Rattle.tk_segments.specs.SeenTours.{list_of, room_of, run_count_of};
+ghost use Rattle.tk_segments.specs.SeenTours.{list_of, room_of, segment_count_of};
 ghost use Rattle.tk_segments.specs.Writes.{AreEnough, ArePaid};
 ghost use Rattle.tk_segments.specs.declared.tour.TheConstants.{MOST};
 ghost use Rattle.tk_problem.specs.declared.limits.TheConstants.{CITY_LIMIT};
@@ -8,11 +8,13 @@ ghost use Rattle.tk_tour.specs.Fault.{HasTourFault, IsTourSize};
 ghost use Rattle.tk_tour.specs.Reversal.{IsInverse};
 ghost use Rattle.tk_tour.specs.Tour.{IsSizedTour};
 
-use crate::runs::Runs;
 use crate::seen::SeenTour;
+use crate::segments::Segments;
 use std::alloc::Global;
 use tk_problem::CITY_LIMIT;
-use tk_tour::{Around, Flip, TourFault, TourStore, UndoStore, Verdict, place_cities, shorter_side};
+use tk_tour::{
+    Flip, Neighbourhood, TourFault, TourStore, UndoStore, Verdict, place_cities, shorter_side,
+};
 
 /// Maximum number of segments.
 pub const MOST: u32 = 250;
@@ -52,7 +54,7 @@ pub struct SegmentTour {
     flips: u64,
     copied: u64,
     writes: u64,
-    ghost paid: { ArePaid (length (list_of seen)) (room_of seen) writes (run_count_of seen) (swaps + undo_swaps) },
+    ghost paid: { ArePaid (length (list_of seen)) (room_of seen) writes (segment_count_of seen) (swaps + undo_swaps) },
     ghost fits: { (swaps < 2 ^ 64) × (undo_swaps < 2 ^ 64) × (flips < 2 ^ 64) },
     ghost writes_fit: { writes < 2 ^ 64 },
 }
@@ -81,12 +83,12 @@ impl TourStore for SegmentTour {
         self.seen.prev(c)
     }
 
-    fn beside(&self, c: u32) -> (u32, u32) {
-        self.seen.beside(c)
+    fn neighbours(&self, c: u32) -> (u32, u32) {
+        self.seen.neighbours(c)
     }
 
-    fn around(&self, c: u32) -> Around {
-        self.seen.around(c)
+    fn neighbourhood(&self, c: u32) -> Neighbourhood {
+        self.seen.neighbourhood(c)
     }
 
     fn at(&self, k: u32) -> u32 {
@@ -252,12 +254,12 @@ impl SegmentTour {
         let Ok(spare) = vec![in alloc; 0u32; n] else {
             return Err(TourFault::NoMemory);
         };
-        let Ok(runs) = Runs::new(alloc, n as u32, most) else {
+        let Ok(segments) = Segments::new(alloc, n as u32, most) else {
             return Err(TourFault::NoMemory);
         };
         let place = places_of(alloc, cities)?;
         Ok(SegmentTour {
-            seen: SeenTour::new(order, place, spare, runs, short),
+            seen: SeenTour::new(order, place, spare, segments, short),
             swaps: 0,
             undo_swaps: 0,
             flips: 0,
@@ -300,6 +302,6 @@ impl SegmentTour {
         ensures count { result ≡ segments_of self.now }
         ensures few { (1 ≤ result) × (result ≤ most_of self.now) }
     {
-        self.seen.run_count()
+        self.seen.segment_count()
     }
 }

@@ -2,58 +2,60 @@
 ghost use Rattle.std.specs.Prelude.{◌≡◌, ◌≤◌, ◌<◌, ◌+◌, ◌-◌, ◌++◌, length, drop, take};
 ghost use Rattle.tk_problem.specs.declared.limits.TheConstants.{CITY_LIMIT};
 ghost use Rattle.tk_tour.specs.Reversal.{begun_at};
-ghost use Rattle.tk_segments.specs.Runs.{AreLaidOut, IsWithin, shown, shown_by, run_size};
+ghost use Rattle.tk_segments.specs.Segments.{AreLaidOut, IsWithin, shown, shown_by, segment_size};
 
-use crate::run::{Run, parts_of};
+use crate::segment::{Segment, parts_of};
 
 // Writes what a segment shows to a list, from position `from` on.
-fn write_run(order: &[u32], run: Run, from: u32, list: &mut [u32])
-    requires within { IsWithin (length order.now) run }
-    requires fits { from + run_size run ≤ length list.old }
+fn write_segment(order: &[u32], segment: Segment, from: u32, list: &mut [u32])
+    requires within { IsWithin (length order.now) segment }
+    requires fits { from + segment_size segment ≤ length list.old }
     requires small { length list.old ≤ CITY_LIMIT }
-    ensures { list.new ≡ take from list.old ++ (shown_by order.now run ++ drop (from + run_size run) list.old) }
+    ensures { list.new ≡ take from list.old ++ (shown_by order.now segment ++ drop (from + segment_size segment)
+        list.old) }
 {
-    let end = from + (run.high - run.low);
+    let end = from + (segment.high - segment.low);
     let part = &mut list[from as usize..end as usize];
-    part.copy_from_slice(&order[run.low as usize..run.high as usize]);
-    if run.back {
+    part.copy_from_slice(&order[segment.low as usize..segment.high as usize]);
+    if segment.back {
         part.reverse();
     }
 }
 
 // Writes what a segment shows to its positions in a list of the whole sequence, rotated to begin at position `begin`.
-fn write_run_begun(order: &[u32], run: Run, size: u32, begin: u32, list: &mut [u32])
+fn write_segment_begun(order: &[u32], segment: Segment, size: u32, begin: u32, list: &mut [u32])
     requires size { size ≤ CITY_LIMIT }
     requires length { length order.now ≡ size }
-    requires within { IsWithin size run }
-    requires fits { run.start + run_size run ≤ size }
+    requires within { IsWithin size segment }
+    requires fits { segment.start + segment_size segment ≤ size }
     requires begin { begin < size }
     requires list { length list.old ≡ size }
-    ensures { begun_at (size - begin) list.new ≡ take run.start (begun_at (size - begin) list.old)
-        ++ (shown_by order.now run ++ drop (run.start + run_size run) (begun_at (size - begin) list.old)) }
+    ensures { begun_at (size - begin) list.new ≡ take segment.start (begun_at (size - begin) list.old)
+        ++ (shown_by order.now segment ++ drop (segment.start + segment_size segment)
+        (begun_at (size - begin) list.old)) }
 {
     let before = size - begin;
-    if run.start + (run.high - run.low) <= begin {
-        write_run(order, run, run.start + before, list);
-    } else if begin <= run.start {
-        write_run(order, run, run.start - begin, list);
+    if segment.start + (segment.high - segment.low) <= begin {
+        write_segment(order, segment, segment.start + before, list);
+    } else if begin <= segment.start {
+        write_segment(order, segment, segment.start - begin, list);
     } else {
-        let (one, two) = parts_of(run, begin - run.start, 0);
-        write_run(order, one, one.start + before, list);
-        write_run(order, two, 0, list);
+        let (one, two) = parts_of(segment, begin - segment.start, 0);
+        write_segment(order, one, one.start + before, list);
+        write_segment(order, two, 0, list);
     }
 }
 
 /// Writes the sequence to a list, rotated to begin at position `begin`.
-pub fn write_seen(order: &[u32], runs: &[Run], size: u32, begin: u32, list: &mut [u32])
+pub fn write_seen(order: &[u32], segments: &[Segment], size: u32, begin: u32, list: &mut [u32])
     requires size { size ≤ CITY_LIMIT }
     requires length { length order.now ≡ size }
-    requires laid { AreLaidOut size runs.now }
+    requires laid { AreLaidOut size segments.now }
     requires begin { begin < size }
     requires list { length list.old ≡ size }
-    ensures { list.new ≡ begun_at begin (shown order.now runs.now) }
+    ensures { list.new ≡ begun_at begin (shown order.now segments.now) }
 {
-    for k in 0..runs.len() {
-        write_run_begun(order, runs[k], size, begin, list);
+    for k in 0..segments.len() {
+        write_segment_begun(order, segments[k], size, begin, list);
     }
 }

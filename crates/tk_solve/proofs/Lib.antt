@@ -1,8 +1,8 @@
-pub mod Both
-pub mod Cities
+pub mod OutcomeFacts
+pub mod TourEntries
 pub mod FirstShortest
 pub mod ShownTours
-pub mod SoFar
-pub mod Sound
-pub mod Tables
+pub mod RunsSoFar
+pub mod ResultsOfRuns
+pub mod EuclidTables
 pub mod Watched

@@ -8,10 +8,10 @@ use Rattle.tk_solve.specs.Events.{Event}
 use Rattle.tk_solve.specs.Runs.{Run, Trials, untried, tried, shown_of}
 use Rattle.tk_solve.specs.Watching.{WereShown, nothing, next}
 
--- trials that are told are trials of a search
-pub run_of : {told : ℕ → ℤ → Searching → Event} {begun : Searching} {words : Stream} {t : ℕ} {shown : List Event}
+-- trials that are reported are trials of a search
+pub run_of : {reported : ℕ → ℤ → Searching → Event} {begun : Searching} {words : Stream} {t : ℕ} {shown : List Event}
     {ended : Searching} {rest : Stream} →
-    Trials told begun words t shown ended rest → SearchRun begun words t ended rest
+    Trials reported begun words t shown ended rest → SearchRun begun words t ended rest
 run_of untried = begin
 run_of (tried before step) = trial (run_of before) step
 

@@ -1,5 +1,5 @@
 -- The runs of a search for a tour.
---     Trials told begun words t shown ended rest      t trials, and the event of each
+--     Trials reported begun words t shown ended rest      t trials, and the event of each
 --     IsRun task near j run      run j, counted from 0: its trials from its start, with random words of its own
 --     AreRuns task near runs      runs one after another, from run 0 on
 --     best_tours runs      the best tour of each run
@@ -39,14 +39,14 @@ report_of distance run = record { best = pos (run_length distance run); totals =
 abbrev pub words_of : ℕ → Stream
 words_of seed = stream_of (steps_u32 pcg32) (pcg32_of_seed (pcg32_seed 16 seed))
 
--- t trials of a search, one after another, and the event of each; `told` makes the event from the number of the trial,
--- counted from 0, the length of the tour that it ended with, and the search after it
-pub data Trials (told : ℕ → ℤ → Searching → Event) (begun : Searching) (words : Stream) :
+-- t trials of a search, one after another, and the event of each; `reported` makes the event from the number of the
+-- trial, counted from 0, the length of the tour that it ended with, and the search after it
+pub data Trials (reported : ℕ → ℤ → Searching → Event) (begun : Searching) (words : Stream) :
     ℕ → List Event → Searching → Stream → Type 0 where
-  untried : Trials told begun words 0 [] begun words
+  untried : Trials reported begun words 0 [] begun words
   tried : {t : ℕ} {shown : List Event} {old new : Searching} {left rest : Stream} {report : TrialReport} →
-      Trials told begun words t shown old left → NextTrial old left new rest report →
-      Trials told begun words (t + 1) (shown ++ told t report.descent.after new ∷ []) new rest
+      Trials reported begun words t shown old left → NextTrial old left new rest report →
+      Trials reported begun words (t + 1) (shown ++ reported t report.descent.after new ∷ []) new rest
 
 -- the search of run j, counted from 0, after its trials from a start, with the random words of the seed plus j
 pub record IsSearched (task : TourTask) (near : NearLists) (j : ℕ) (start : List ℕ) (shown : List Event)

@@ -15,4 +15,4 @@ pub use options::{RouteOptions, Start, TourOptions};
 pub use outcome::RunReport;
 pub use routes::solve_routes;
 pub use tour::{SolvedTour, solve_tour};
-pub use watch::{Progress, Unwatched, Watch};
+pub use watch::{NoObserver, Progress, Watch};

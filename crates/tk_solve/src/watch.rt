@@ -43,9 +43,9 @@ pub trait Watch {
 
 /// An observer that does nothing.
 #[derive(Clone, Copy)]
-pub struct Unwatched;
+pub struct NoObserver;
 
-impl Watch for Unwatched {
+impl Watch for NoObserver {
     ghost shows = { λ old _ new. new ≡ old };
 
     fn begin(&mut self, _name: &[u8]) {}

@@ -8,14 +8,14 @@ pub use tk_lists::{
     each_solution_text_has_an_answer, each_tour_text_has_an_answer, read_solution, read_tour,
 };
 pub use tk_problem::{
-    CANDIDATE_LIMIT, CAPACITY_LIMIT, CITY_LIMIT, COORDINATE_LIMIT, DISTANCE_LIMIT, ENTRY_LIMIT,
-    FORMATS, Format, LowerWeights, PLANE_KINDS, Place, Places, PlaneKind, Point, Points, Problem,
-    ROUTE_LIMIT, Routing, SCALE, TABLE_LIMIT, TEXT_LIMIT, Unit, WeightCursor, Weights, WholePoint,
-    limits_are_these_numbers,
+    CANDIDATE_LIMIT, CAPACITY_LIMIT, CITY_LIMIT, COORDINATE_LIMIT, Cell, DISTANCE_LIMIT,
+    ENTRY_LIMIT, FORMATS, Format, LowerWeights, PLANE_KINDS, Places, PlaneKind, Point, Points,
+    Problem, ROUTE_LIMIT, Routing, SCALE, TABLE_LIMIT, TEXT_LIMIT, Unit, WeightCursor, Weights,
+    WholePoint, limits_are_these_numbers,
 };
 pub use tk_problem_text::{decided_problems_stay, each_problem_text_has_an_answer, read_problem};
 pub use tk_words::{
-    BUFFER_SIZE, Entry, Failed, FromRead, Keyword, Role, Source, Step, TextFault, TextKind,
+    BUFFER_SIZE, Entry, Failed, FeedResult, FromRead, Keyword, Role, Source, TextFault, TextKind,
     TextReader, blank, buffer_size_is_this_number, decimal, each_word_spells_its_keyword, entry_of,
     feed_piece, integer, keyword_in, letter, minus_one, read_text, spelled, word_byte,
 };

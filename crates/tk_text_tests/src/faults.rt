@@ -12,8 +12,8 @@ fn expect_messages(rt: &impl Abort, alloc: Global, rows: &[(TextKind, &str)]) {
             line: 7,
             kind: *kind,
         };
-        let told = format!(in alloc; "{fault}").expect(rt, "memory for a line");
-        expect(rt, told.as_str() == *message);
+        let reported = format!(in alloc; "{fault}").expect(rt, "memory for a line");
+        expect(rt, reported.as_str() == *message);
     }
 }
 

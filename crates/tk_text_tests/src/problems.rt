@@ -2,8 +2,8 @@
 
 mod headers;
 pub mod read_both_ways;
+pub mod reported;
 mod routing;
 mod sections;
 mod sources;
-pub mod told;
 mod whole;

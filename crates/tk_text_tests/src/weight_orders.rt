@@ -3,11 +3,11 @@
 use crate::texts::expect;
 use std::alloc::Global;
 use std::process::Abort;
-use tk_text::{Format, LowerWeights, Place, WeightCursor};
+use tk_text::{Cell, Format, LowerWeights, WeightCursor};
 
 #[test]
 fn indices(rt: HostRuntime) {
-    expect(&rt, Place { row: 2, column: 2 }.is_diagonal());
+    expect(&rt, Cell { row: 2, column: 2 }.is_diagonal());
     let rows: &[(u32, u32, usize)] = &[
         (1, 0, 0),
         (2, 0, 1),
@@ -16,7 +16,7 @@ fn indices(rt: HostRuntime) {
         (4999, 4998, 12_497_499),
     ];
     for (row, column, index) in rows {
-        let place = Place {
+        let place = Cell {
             row: *row,
             column: *column,
         };

@@ -1,10 +1,10 @@
-pub mod Bridge
+pub mod DoubleBridgeFlips
 pub mod CitiesOfTours
 pub mod Cycle
 pub mod Lengths
-pub mod Once
-pub mod Placing
+pub mod DistinctCycles
+pub mod FirstPositions
 pub mod SegmentMove
-pub mod Steps
+pub mod CycleNeighbours
 pub mod StoredTours
 pub mod Tours

@@ -6,7 +6,7 @@ use Rattle.std.proofs.lemmas.List.{append_assoc, reverse-append, reverse-reverse
 use Rattle.tk_tour.specs.Tour.{SameCycle, IsPath, IsSizedTour}
 use Rattle.tk_tour.specs.Moves.{ReplacesSteps, CanFlip, CutInThree, OrMove, TwoOptMove}
 use Rattle.tk_tour.proofs.Cycle.{IsRotation-refl, turn, same, IsPath-append, IsPath-reverse}
-use Rattle.tk_tour.proofs.Steps.{CanFlip-from_cut}
+use Rattle.tk_tour.proofs.CycleNeighbours.{CanFlip-from_cut}
 
 itself : (xs : List ℕ) → SameCycle xs xs
 itself xs = inl (IsRotation-refl xs)

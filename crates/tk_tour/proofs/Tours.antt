@@ -9,7 +9,7 @@ use Rattle.std.proofs.Math.Nat.{mod-lt, mod-eq_of_lt, mod_self, add-mul-mod_self
 use Rattle.tk_tour.specs.Reversal.{IsInverse}
 use Rattle.tk_distance.specs.Cities.{IsCity}
 use Rattle.tk_tour.specs.Tour.{IsTour, IsSizedTour, occurrences, place_of, next_city, prev_city}
-use Rattle.tk_tour.proofs.Once.{HoldsOnce, occurrences-append, occurrences-cons, occurrences-at}
+use Rattle.tk_tour.proofs.DistinctCycles.{HoldsOnce, occurrences-append, occurrences-cons, occurrences-at}
 
 pub occurrences-other : (c x : ℕ) (xs : List ℕ) → c ≢ x → occurrences c (x ∷ xs) ≡ occurrences c xs
 unfolding occurrences

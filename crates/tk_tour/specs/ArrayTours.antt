@@ -1,6 +1,6 @@
 -- The state of an `ArrayTour`, as its contracts describe it: the order of its cities and its counters.
 use Rattle.std.specs.Prelude.{◌≡◌, ℕ, ◌<◌, ◌^◌, List}
-use Rattle.tk_tour.specs.Tally.{Tally, OnlyFlips, OnlyFlips-refl, OnlyFlips-trans}
+use Rattle.tk_tour.specs.TourCounters.{TourCounters, OnlyFlips, OnlyFlips-refl, OnlyFlips-trans}
 use Rattle.tk_tour.specs.declared.stores.array.ArrayTour.{ArrayTour}
 
 -- the cities in their order
@@ -25,7 +25,7 @@ abbrev pub SameFlips : ArrayTour → ArrayTour → Type 0
 SameFlips old new = (swaps_of new ≡ swaps_of old) × (flips_of new ≡ flips_of old)
     × (undo_swaps_of new ≡ undo_swaps_of old)
 
-abbrev pub tally_of : ArrayTour → Tally
+abbrev pub tally_of : ArrayTour → TourCounters
 tally_of tour = record {
   cities = order_of tour;
   swaps = swaps_of tour;

@@ -3,8 +3,8 @@ use Rattle.std.specs.Prelude.{◌≡◌, ℕ, ◌+◌, ◌^◌, ◌<◌, ◌≤�
 use Rattle.std.proofs.Common.{◌∙◌, arith}
 use Rattle.tk_tour.specs.Counters.{saturated}
 use Rattle.tk_tour.specs.Journal.{undone, swaps_to_undo}
-use Rattle.tk_tour.specs.Tally.{Tally, OnlyFlips, OnlyFlips-refl, OnlyFlips-refl-counts, OnlyFlips-trans}
-use Rattle.tk_tour.specs.Tally.{OnlyFlips-trans-counts}
+use Rattle.tk_tour.specs.TourCounters.{TourCounters, OnlyFlips, OnlyFlips-refl, OnlyFlips-refl-counts, OnlyFlips-trans}
+use Rattle.tk_tour.specs.TourCounters.{OnlyFlips-trans-counts}
 use Rattle.tk_tour.specs.declared.store.TourStore.{Ghosts}
 use Rattle.tk_tour.specs.declared.stores.journal.JournalTour.{JournalTour}
 use Rattle.tk_tour.specs.declared.undo.UndoStore as undo
@@ -55,7 +55,7 @@ settled_order journal = undone journal.journal.items (cities_of journal)
 abbrev pub swaps_to_rewind : {S : Type 0} → {u : undo.Ghosts S} → {s : Ghosts S} → JournalTour S u s → ℕ
 swaps_to_rewind journal = swaps_to_undo journal.journal.items
 
-abbrev pub tally_of : {S : Type 0} → undo.Ghosts S → Ghosts S → S → Tally
+abbrev pub tally_of : {S : Type 0} → undo.Ghosts S → Ghosts S → S → TourCounters
 tally_of u s tour = record {
   cities = s.cities tour;
   swaps = s.swap_count tour;

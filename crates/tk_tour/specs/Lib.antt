@@ -1,4 +1,4 @@
-pub mod Around
+pub mod Neighbourhood
 pub mod ArrayTours
 pub mod Counters
 pub mod Fault
@@ -10,6 +10,6 @@ pub mod Places
 pub mod Printed
 pub mod Reversal
 pub mod ReversalLaws
-pub mod Tally
+pub mod TourCounters
 pub mod Tour
 pub mod Verdict

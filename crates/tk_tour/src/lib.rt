@@ -13,8 +13,8 @@ mod verdict;
 
 pub use fault::TourFault;
 pub use measure::length;
-pub use sides::{Placed, shorter_side};
-pub use store::{Around, Flip, TourStore};
+pub use sides::{Positions, shorter_side};
+pub use store::{Flip, Neighbourhood, TourStore};
 pub use stores::array::ArrayTour;
 pub use stores::journal::JournalTour;
 pub use stores::placing::place_each;

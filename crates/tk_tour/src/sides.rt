@@ -7,7 +7,7 @@ ghost use Rattle.tk_tour.specs.Places.{PathLength};
 ghost use Rattle.tk_tour.specs.Tour.{IsSizedTour, next_city};
 
 /// A tour that knows the position of each city; its model is the list of its cities.
-pub trait Placed {
+pub trait Positions {
     /// The cities in their order.
     ghost cities: { Self → List ℕ };
 
@@ -47,7 +47,7 @@ fn path_length(n: u32, from: u32, to: u32) -> u32
 
 // Like `shorter_side`, if b comes after a and d after c: the positions from b to c, or those from d to a if there are
 // fewer.
-fn side_ahead<S: Placed>(tour: &S, a: u32, b: u32, c: u32, d: u32) -> (u32, u32)
+fn side_ahead<S: Positions>(tour: &S, a: u32, b: u32, c: u32, d: u32) -> (u32, u32)
     requires { AreForward (S.cities tour.now) a b c d }
     ensures side { TurnsShorterSide (S.cities tour.now) result.0 result.1 a b c d }
     ensures inner { 2 * result.1 ≡ length (S.cities tour.now) → slice_index (S.cities tour.now) result.0 ≡ b }
@@ -64,7 +64,7 @@ fn side_ahead<S: Placed>(tour: &S, a: u32, b: u32, c: u32, d: u32) -> (u32, u32)
 /// The positions that a flip of the edges a-b and c-d reverses: the first, counted from 0, and their number. They are
 /// those of the shorter side, or of the inner side if both are equally long, and may continue from the end of the list
 /// to its beginning. The inner side is the path from b to c without a.
-pub fn shorter_side<S: Placed>(tour: &S, a: u32, b: u32, c: u32, d: u32) -> (u32, u32)
+pub fn shorter_side<S: Positions>(tour: &S, a: u32, b: u32, c: u32, d: u32) -> (u32, u32)
     requires { CanFlip (S.cities tour.now) a b c d }
     ensures side { TurnsShorterSide (S.cities tour.now) result.0 result.1 a b c d }
     ensures inner { 2 * result.1 ≡ length (S.cities tour.now) → BeginsInside (S.cities tour.now) result.0 a b c }

@@ -1,7 +1,7 @@
 //! Tour stores: tours that are changed by flips.
 ghost use Rattle.std.specs.Prelude.{◌≡◌, ◌≤◌, ◌+◌, ◌-◌, ◌*◌, ◌/◌, ℕ, List, length, slice_index};
 ghost use Rattle.tk_distance.specs.Cities.{IsCity};
-ghost use Rattle.tk_tour.specs.Around.{AreAround};
+ghost use Rattle.tk_tour.specs.Neighbourhood.{IsNeighbourhood};
 ghost use Rattle.tk_tour.specs.Tour.{IsSizedTour, next_city, prev_city};
 ghost use Rattle.tk_tour.specs.Moves.{CanFlip, IsShorterSide, ReplacesSteps, TwoOptMove};
 ghost use Rattle.tk_tour.specs.Reversal.{reversed_places};
@@ -16,7 +16,7 @@ pub struct Flip {
 
 /// The three cities after a city of a tour, and the three before it, both beginning next to the city.
 #[derive(Clone, Copy, PartialEq, Eq, Debug)]
-pub struct Around {
+pub struct Neighbourhood {
     pub after: [u32; 3],
     pub before: [u32; 3],
 }
@@ -51,7 +51,7 @@ pub trait TourStore {
         ensures { result ≡ prev_city (cities self.now) c };
 
     /// The cities after and before c.
-    fn beside(&self, c: u32) -> (u32, u32)
+    fn neighbours(&self, c: u32) -> (u32, u32)
         requires { IsCity (length (cities self.now)) c }
         ensures after { result.0 ≡ next_city (cities self.now) c }
         ensures before { result.1 ≡ prev_city (cities self.now) c }
@@ -60,13 +60,13 @@ pub trait TourStore {
     }
 
     /// The three cities after c, and the three before it.
-    fn around(&self, c: u32) -> Around
+    fn neighbourhood(&self, c: u32) -> Neighbourhood
         requires { IsCity (length (cities self.now)) c }
-        ensures { AreAround (cities self.now) c result }
+        ensures { IsNeighbourhood (cities self.now) c result }
     {
-        let (after, before) = self.beside(c);
+        let (after, before) = self.neighbours(c);
         let (after_2, before_2) = (self.next(after), self.prev(before));
-        Around {
+        Neighbourhood {
             after: [after, after_2, self.next(after_2)],
             before: [before, before_2, self.prev(before_2)],
         }

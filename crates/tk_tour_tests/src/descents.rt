@@ -1,6 +1,6 @@
 //! Worked examples of descents, and each call once at concrete types.
 ghost use Rattle.std.specs.Prelude.{◌≡◌, ◌≤◌, pos, length};
-ghost use Rattle.tk_descent.specs.Steps.{AreTrueOf};
+ghost use Rattle.tk_descent.specs.EdgeCache.{AreTrueOf};
 ghost use Rattle.tk_tour.specs.ArrayTours.{order_of};
 ghost use Rattle.tk_tour.specs.JournalTours.{cities_of};
 ghost use Rattle.tk_tour.specs.Tour.{tour_length};
@@ -12,7 +12,7 @@ use crate::given::{
 use std::alloc::{AllocError, Global};
 use std::process::Abort;
 use tk_descent::{
-    Gains, Probe, Report, Steps, Waking, descend, descend_swept, is_local_optimum, look, make,
+    EdgeCache, Gains, Probe, Report, Waking, descend, descend_swept, is_local_optimum, look, make,
 };
 use tk_metric::{Metric, Near};
 use tk_tour::{ArrayTour, JournalTour, TourStore, length};
@@ -337,18 +337,18 @@ fn descend_with<M: Metric>(
     metric: &M,
     tour: &mut ArrayTour,
     near: &Near,
-    steps: Steps,
-) -> Steps
+    steps: EdgeCache,
+) -> EdgeCache
     requires metric { M.size_of metric.now ≡ length (order_of tour.old) }
     requires near { near.now.size ≡ length (order_of tour.old) }
     requires steps { AreTrueOf (M.distance metric.now) steps }
     ensures { AreTrueOf (M.distance metric.now) result }
 {
     let before = length_of(metric, tour);
-    let mut gains = Probe::with_steps(metric, steps);
+    let mut gains = Probe::with_cache(metric, steps);
     let report = descend_awake(rt, alloc, tour, &mut gains, near, 2, before);
     expect_report(rt, &report, [29, 19], [3, 9, 71, 4]);
-    gains.into_steps()
+    gains.into_cache()
 }
 
 /// Like `descend_with`, for five cities in their order.
@@ -357,8 +357,8 @@ fn steps_after<M: Metric>(
     alloc: Global,
     metric: &M,
     near: &Near,
-    steps: Steps,
-) -> Steps
+    steps: EdgeCache,
+) -> EdgeCache
     requires near { near.now.size ≡ M.size_of metric.now }
     requires steps { AreTrueOf (M.distance metric.now) steps }
     ensures { AreTrueOf (M.distance metric.now) result }
@@ -374,7 +374,7 @@ fn descend_remembering<M: Metric>(
     alloc: Global,
     metric: &M,
     near: &Near,
-    steps: Steps,
+    steps: EdgeCache,
 )
     requires near { near.now.size ≡ M.size_of metric.now }
     requires steps { AreTrueOf (M.distance metric.now) steps }
@@ -388,7 +388,7 @@ fn descend_remembering<M: Metric>(
 #[test]
 fn remembers_steps(rt: HostRuntime) -> Result<(), AllocError> {
     let metric = triangle(&rt, 5, UNEVEN);
-    let steps = Steps::new(rt.alloc(), 5)?;
+    let steps = EdgeCache::new(rt.alloc(), 5)?;
     let near = near_of(&rt, rt.alloc(), &metric, 2);
     descend_remembering(&rt, rt.alloc(), &metric, &near, steps);
     Ok(())

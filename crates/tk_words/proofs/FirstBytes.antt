@@ -3,8 +3,8 @@ use Rattle.std.proofs.Common.{◌≡◌, ℕ, ◌+◌, ◌≤◌, ◌==◌, List
 use Rattle.std.proofs.Common.{subst}
 use Rattle.std.proofs.Common.{sym, arith}
 use Rattle.std.proofs.lemmas.List.Sums.{count_by-le-length}
-use Rattle.tk_words.specs.Texts.{Decides, DecidesWithin, IsTold, Texts, line_behind}
-use Rattle.tk_words.proofs.Told.{told_of}
+use Rattle.tk_words.specs.Texts.{Decides, DecidesWithin, IsReported, Texts, line_behind}
+use Rattle.tk_words.proofs.ReportedFaults.{reported_of}
 
 pub first_byte : (bytes : List ℕ) → 1 ≤ length bytes → take 1 bytes ≡ get_or bytes 0 0 ∷ []
 first_byte [] some = absurd (omega arith)
@@ -19,8 +19,8 @@ module _ {V E : Type 0} (texts : Texts V E) (before bytes : List ℕ) (some : 1 
       DecidesWithin texts before bytes a
   first_decides a h = (1, some, subst (λ (l : List ℕ). Decides texts (before ++ l) a) (sym (first_byte bytes some)) h)
 
-  pub first_told : (f : E) → IsTold texts (Decides texts (before ++ get_or bytes 0 0 ∷ [])) f →
-      IsTold texts (DecidesWithin texts before bytes) f
-  first_told f h =
-      told_of ⊥ (λ e. Decides texts (before ++ get_or bytes 0 0 ∷ []) (Err e))
+  pub first_reported : (f : E) → IsReported texts (Decides texts (before ++ get_or bytes 0 0 ∷ [])) f →
+      IsReported texts (DecidesWithin texts before bytes) f
+  first_reported f h =
+      reported_of ⊥ (λ e. Decides texts (before ++ get_or bytes 0 0 ∷ []) (Err e))
       (λ e. DecidesWithin texts before bytes (Err e)) f (texts.cause f) (first_decides (Err f)) h

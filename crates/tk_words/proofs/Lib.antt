@@ -1,7 +1,7 @@
-pub mod Bools
-pub mod Driving
+pub mod BoolLaws
+pub mod DecidedTexts
 pub mod FirstBytes
 pub mod NoWord
 pub mod NumberLaws
 pub mod Spelling
-pub mod Told
+pub mod ReportedFaults

@@ -9,7 +9,7 @@ use Rattle.tk_words.specs.declared.keyword.Keyword.{Keyword}
 use Rattle.tk_words.specs.declared.keyword.Keyword.TheVariants as words
 use Rattle.tk_words.specs.Lex.{is_letter, natural, integer}
 use Rattle.tk_words.specs.Words.{all_keywords, spells, begins_word, keyword_of, word}
-use Rattle.tk_words.proofs.Bools.{and_false, or_true}
+use Rattle.tk_words.proofs.BoolLaws.{and_false, or_true}
 use Rattle.tk_words.proofs.Spelling.{differ_in_length}
 use Rattle.tk_words.specs.Entry.{without_colon}
 

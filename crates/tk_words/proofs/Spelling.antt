@@ -1,7 +1,7 @@
 -- Comparing bytes one by one.
 use Rattle.std.proofs.Common.{◌≡◌, ◌≢◌, ℕ, suc, false, eqb, ◌&&◌, List, [], ◌∷◌, length, refl, ap, ◌∙◌}
 use Rattle.std.specs.Char.{to_ascii_uppercase}
-use Rattle.tk_words.proofs.Bools.{and_false}
+use Rattle.tk_words.proofs.BoolLaws.{and_false}
 use Rattle.tk_words.specs.Words.{spells}
 
 pub differ_in_length : (xs ys : List ℕ) → length xs ≢ length ys → spells xs ys ≡ false

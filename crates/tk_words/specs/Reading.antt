@@ -1,6 +1,7 @@
 -- The answer of a reader.
 use Rattle.std.specs.Prelude.{◌≡◌, ℕ, Bool, IfErr, IfOk, List, ◌++◌, length, Ok, Result}
-use Rattle.tk_words.specs.Texts.{IsAnswerWhereTold, IsFaultOfSomeText, IsFaultWhereTold, IsIntact, IsOfSomeText, Texts}
+use Rattle.tk_words.specs.Texts.{IsAnswerIfSpecified, IsFaultOfSomeText, IsFaultIfSpecified, IsIntact, IsOfSomeText}
+use Rattle.tk_words.specs.Texts.{Texts}
 use Rattle.tk_words.specs.Taking.{HasTakenAll}
 use Rattle.tk_words.specs.declared.sources.source.Source.{Ghosts}
 use Rattle.tk_words.specs.declared.sources.text_reader.TextReader as reader
@@ -9,8 +10,8 @@ use Rattle.tk_words.specs.declared.sources.text_reader.TextReader as reader
 pub record IsReading {V E S O : Type 0} (source : Ghosts S) (texts : Texts V E) (view : O → V) (old new : S)
     (answer : Result O E) : Type 0 where
   -- if the source specifies its bytes: the value or the fault of its text
-  pub ok : IfOk answer (λ value. IsAnswerWhereTold texts (source.left old) (source.left new) (Ok (view value)))
-  pub err : IfErr answer (IsFaultWhereTold texts (source.broken new) (source.left old) (source.left new))
+  pub ok : IfOk answer (λ value. IsAnswerIfSpecified texts (source.left old) (source.left new) (Ok (view value)))
+  pub err : IfErr answer (IsFaultIfSpecified texts (source.broken new) (source.left old) (source.left new))
   -- if it does not: those of some text
   pub some_text : IfOk answer (λ value. IsOfSomeText texts (Ok (view value)))
   pub some_fault : IfErr answer (IsFaultOfSomeText texts)

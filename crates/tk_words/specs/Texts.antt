@@ -4,7 +4,7 @@
 --     IsReadTo texts text rest      how far a text was read
 --     IsAnswer texts text rest a      the answer of a reader
 --     IsCutOff texts line text rest      how far a text was read when its source failed
---     IsFaultWhereTold texts broken old new f      the meaning of a fault
+--     IsFaultIfSpecified texts broken old new f      the meaning of a fault
 --
 -- A text is read from its front, and no further than its answer requires: if its first bytes contain a fault, or
 -- complete it, the bytes after them are not read. Therefore, a format defines the answer that bytes decide in two
@@ -73,14 +73,14 @@ abbrev pub line_behind : List ℕ → ℕ
 line_behind bs = suc (count_by (λ b. b == 10) bs)
 
 -- a fault of the text satisfies P, and for a fault of its source R is true; memory may run out at any time
-abbrev pub IsToldOf : {E : Type 0} → Type 0 → (E → Type 0) → E → Cause → Type 0
-IsToldOf R P f OfText = P f
-IsToldOf R P f OfSource = R
-IsToldOf R P f OfMemory = Unit {0}
+abbrev pub IsReportedOf : {E : Type 0} → Type 0 → (E → Type 0) → E → Cause → Type 0
+IsReportedOf R P f OfText = P f
+IsReportedOf R P f OfSource = R
+IsReportedOf R P f OfMemory = Unit {0}
 
 -- a fault of the text, as an answer, satisfies P; memory may run out at any time, and the source does not fail
-abbrev pub IsTold : {V E : Type 0} → Texts V E → (Result V E → Type 0) → E → Type 0
-IsTold texts P f = IsToldOf ⊥ (λ e. P (Err e)) f (texts.cause f)
+abbrev pub IsReported : {V E : Type 0} → Texts V E → (Result V E → Type 0) → E → Type 0
+IsReported texts P f = IsReportedOf ⊥ (λ e. P (Err e)) f (texts.cause f)
 
 -- ---- the answer to a text
 
@@ -101,7 +101,7 @@ IsOfSomeText texts a = (text : List ℕ) × (answer_of texts text ≡ a)
 
 -- a fault of the text is the answer to some text
 abbrev pub IsFaultOfSomeText : {V E : Type 0} → Texts V E → E → Type 0
-IsFaultOfSomeText texts f = IsToldOf (Unit {0}) (λ e. IsOfSomeText texts (Err e)) f (texts.cause f)
+IsFaultOfSomeText texts f = IsReportedOf (Unit {0}) (λ e. IsOfSomeText texts (Err e)) f (texts.cause f)
 
 -- ---- how far a text is read
 
@@ -133,21 +133,21 @@ pub record IsCutOff {V E : Type 0} (texts : Texts V E) (line : ℕ) (text rest :
   pub line_is : line ≡ line_behind before
 
 -- if a source specifies its bytes, P is true of those that it had and those that it has left
-abbrev pub WhereTold : Option (List ℕ) → Option (List ℕ) → (List ℕ → List ℕ → Type 0) → Type 0
-WhereTold old new P = IfSome old (λ text. (rest : List ℕ) × (new ≡ Some rest) × P text rest)
+abbrev pub IfSpecified : Option (List ℕ) → Option (List ℕ) → (List ℕ → List ℕ → Type 0) → Type 0
+IfSpecified old new P = IfSome old (λ text. (rest : List ℕ) × (new ≡ Some rest) × P text rest)
 
-abbrev pub IsAnswerWhereTold : {V E : Type 0} → Texts V E → Option (List ℕ) → Option (List ℕ) → Result V E → Type 0
-IsAnswerWhereTold texts old new a = WhereTold old new (λ text rest. IsAnswer texts text rest a)
+abbrev pub IsAnswerIfSpecified : {V E : Type 0} → Texts V E → Option (List ℕ) → Option (List ℕ) → Result V E → Type 0
+IsAnswerIfSpecified texts old new a = IfSpecified old new (λ text rest. IsAnswer texts text rest a)
 
 -- a fault of the text, which is its answer; of its source, which has failed; or of memory, after the text was read this
 -- far
 abbrev pub IsFaultOf : {V E : Type 0} → Texts V E → Bool → Option (List ℕ) → Option (List ℕ) → E → Cause → Type 0
-IsFaultOf texts broken old new f OfText = IsAnswerWhereTold texts old new (Err f)
-IsFaultOf texts broken old new f OfSource = (broken ≡ true) × WhereTold old new (IsCutOff texts (texts.line_of f))
-IsFaultOf texts broken old new f OfMemory = WhereTold old new (IsReadTo texts)
+IsFaultOf texts broken old new f OfText = IsAnswerIfSpecified texts old new (Err f)
+IsFaultOf texts broken old new f OfSource = (broken ≡ true) × IfSpecified old new (IsCutOff texts (texts.line_of f))
+IsFaultOf texts broken old new f OfMemory = IfSpecified old new (IsReadTo texts)
 
-abbrev pub IsFaultWhereTold : {V E : Type 0} → Texts V E → Bool → Option (List ℕ) → Option (List ℕ) → E → Type 0
-IsFaultWhereTold texts broken old new f = IsFaultOf texts broken old new f (texts.cause f)
+abbrev pub IsFaultIfSpecified : {V E : Type 0} → Texts V E → Bool → Option (List ℕ) → Option (List ℕ) → E → Type 0
+IsFaultIfSpecified texts broken old new f = IsFaultOf texts broken old new f (texts.cause f)
 
 -- no read has failed, unless the fault is one of the source
 abbrev pub IsIntact : {V E W : Type 0} → Texts V E → Bool → Bool → Result W E → Type 0

@@ -8,8 +8,8 @@ ghost use Rattle.tk_words.specs.FirstToken.{IsFirstToken};
 ghost use Rattle.tk_words.specs.Lex as Lex;
 ghost use Rattle.tk_words.specs.Words as Words;
 
+use crate::byte_buffer::{blank_or_end, token_length};
 use crate::fault::TextKind;
-use crate::held::{blank_or_end, token_length};
 use crate::keyword::Keyword;
 use crate::numbers::decimals::decimal;
 use crate::numbers::entries::{Entry, entry_of, keyword_in};

@@ -25,9 +25,10 @@ use Rattle.tk_words.specs.Words.{keyword_of}
 use Rattle.tk_writers.specs.Written.{line}
 use Rattle.tk_lines.proofs.Sections.SectionEnds.{take_whole}
 use Rattle.tk_writers.proofs.Lengths.ShortMatrix.{length_short_matrix}
-use Rattle.tk_writers.proofs.Saying.{one_line, whole_lines, lines-listed, lines-none, clean, says, says-heads}
-use Rattle.tk_writers.proofs.Saying.{says-section, says-rows, says-eof, decided-says, read_within, AreHeads, head_line}
-use Rattle.tk_writers.proofs.Saying.{heads_whole}
+use Rattle.tk_writers.proofs.WrittenLines.{one_line, whole_lines, lines-listed, lines-none, clean, says, says-heads}
+use Rattle.tk_writers.proofs.WrittenLines.{says-section, says-rows, says-eof, decided-says, read_within, AreHeads}
+use Rattle.tk_writers.proofs.WrittenLines.{head_line}
+use Rattle.tk_writers.proofs.WrittenLines.{heads_whole}
 use Rattle.tk_lines.proofs.Sections.MiddleOfSection.{token}
 use Rattle.tk_writers.proofs.Written.WrittenHeaders.{heads, headed, after_section, are_heads, size_read}
 use Rattle.tk_writers.proofs.Written.WrittenHeaders.{format_read, name_read}

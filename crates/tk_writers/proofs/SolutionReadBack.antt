@@ -19,13 +19,13 @@ use Rattle.tk_lines.proofs.Headers.ByteRuns.{front-all, behind-all}
 use Rattle.tk_lines.proofs.Sections.MiddleOfSection.{tokens_of-gap, tokens_of-none, tokens_of-last}
 use Rattle.tk_lists.proofs.SolutionLines.{routes_of-append, count_of-append, has_cost-append, cost_of-append}
 use Rattle.tk_writers.proofs.Lengths.ListLength.{length_solution_text}
-use Rattle.tk_writers.proofs.Saying.{one_line, read_within}
+use Rattle.tk_writers.proofs.WrittenLines.{one_line, read_within}
 use Rattle.tk_writers.proofs.Written.WrittenLines.{whole_line, lines-written, row_written, numbers_are}
 use Rattle.tk_writers.proofs.Written.WrittenNumbers.{IsDigit, is_digit, digit_apart, digit_solid, spelled, IsShort}
 use Rattle.tk_writers.proofs.Written.WrittenNumbers.{short_decimal, integer_decimal, decimal_run, decimal_line}
 use Rattle.tk_writers.proofs.Written.WrittenNumbers.{one_line_append, AllShort, numbers_line, numbers_tokens}
 use Rattle.tk_writers.proofs.Written.WrittenNumbers.{number_token}
-use Rattle.tk_lines.proofs.Lines.{OnOneLine}
+use Rattle.tk_lines.proofs.KnownWordLines.{OnOneLine}
 
 -- ---- the lines
 
@@ -145,8 +145,8 @@ module _ (c : ℕ) (cheap : IsShort c) where
       let has : has_cost all ≡ true = has_cost-append priced (Empty ∷ []) ∙ rw has_here refl in
       let routes : routes_in all ≡ routes_in before ++ [] = routes_of-append priced (Empty ∷ [])
       ∙ append-nil (routes_in priced) ∙ routes_of-append before (here ∷ []) in
-      let told : cost_of priced ≡ pos c = cost_of-append before (here ∷ []) ∙ rw (unpriced, number) refl in
-      let cost : cost_of all ≡ pos c = cost_of-append priced (Empty ∷ []) ∙ rw has_here told in
+      let reported : cost_of priced ≡ pos c = cost_of-append before (here ∷ []) ∙ rw (unpriced, number) refl in
+      let cost : cost_of all ≡ pos c = cost_of-append priced (Empty ∷ []) ∙ rw has_here reported in
       let fine : line_stop before n true here ≡ None = rw (unpriced, short, number) refl in
       ap (judge_lines before m w) (last_line n c cheap)
       ∙ judged before m n w (codes "Cost " ++ decimal c) (whole_line (suc n) [] ∷ []) here

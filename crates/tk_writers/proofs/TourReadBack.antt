@@ -20,9 +20,9 @@ use Rattle.tk_writers.specs.Written.{line}
 use Rattle.tk_lines.proofs.Sections.SectionEnds.{take_whole, last_line-append}
 use Rattle.tk_lists.proofs.Lists.{entries_ended, list_ended}
 use Rattle.tk_words.proofs.NoWord.{integer-no_word}
-use Rattle.tk_writers.proofs.Saying.{one_line, name_line, whole_lines, lines-listed, lines-none, clean, says}
-use Rattle.tk_writers.proofs.Saying.{says-section, says-rows, says-covered, says-eof, decided-says, read_within}
-use Rattle.tk_writers.proofs.Saying.{Head, head_piece, head_pieces, AreHeads, heads_whole, says-heads}
+use Rattle.tk_writers.proofs.WrittenLines.{one_line, name_line, whole_lines, lines-listed, lines-none, clean, says}
+use Rattle.tk_writers.proofs.WrittenLines.{says-section, says-rows, says-covered, says-eof, decided-says, read_within}
+use Rattle.tk_writers.proofs.WrittenLines.{Head, head_piece, head_pieces, AreHeads, heads_whole, says-heads}
 use Rattle.tk_writers.proofs.Lengths.ListLength.{length_tour_text}
 use Rattle.tk_lines.proofs.Headers.HeaderBytes.{trimmed_short}
 use Rattle.tk_lines.proofs.Sections.MiddleOfSection.{token}
@@ -31,7 +31,7 @@ use Rattle.tk_writers.proofs.Written.WrittenLines.{whole_line, lines-rows, row_l
 use Rattle.tk_writers.proofs.Written.WrittenLines.{tokens-rows, rows_written, in_rows, AreWritten, IsWritten, ShortRows}
 use Rattle.tk_writers.proofs.Written.WrittenLines.{numbers_are}
 use Rattle.tk_writers.proofs.Written.WrittenNumbers.{IsShort, one_line_append, decimal_line, short_decimal}
-use Rattle.tk_lines.proofs.Lines.{OnOneLine}
+use Rattle.tk_lines.proofs.KnownWordLines.{OnOneLine}
 
 -- ---- the cities, each on a line of its own
 

@@ -2,7 +2,7 @@
 use crate::best_place::BestPlace;
 use crate::found::{Copied, Found};
 use crate::search::Search;
-use crate::written::Kept;
+use crate::written::InputFiles;
 use std::alloc::AllocError;
 use std::time::{Clock, Duration};
 use tk_writers::ToWrite;
@@ -35,11 +35,11 @@ impl<'a> BestFile<'a> {
     pub fn new(
         rt: &'a HostRuntime,
         search: &Search<'_, 'a>,
-        kept: Kept,
+        inputs: InputFiles,
     ) -> Result<BestFile<'a>, AllocError> {
         Ok(BestFile {
             rt,
-            place: BestPlace::of(rt, search, kept)?,
+            place: BestPlace::of(rt, search, inputs)?,
             problem: Vec::new(rt.alloc()),
             ended: None,
             ended_length: i64::MAX,

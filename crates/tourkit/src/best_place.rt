@@ -4,7 +4,7 @@ use crate::judged::{Judged, judge};
 use crate::part::replace;
 use crate::report;
 use crate::search::Search;
-use crate::written::Kept;
+use crate::written::InputFiles;
 use std::alloc::AllocError;
 use std::fs::{self, File};
 use std::io::ErrorKind;
@@ -37,22 +37,22 @@ impl<'a> BestPlace<'a> {
     pub fn of(
         rt: &'a HostRuntime,
         search: &Search<'_, 'a>,
-        kept: Kept,
+        inputs: InputFiles,
     ) -> Result<Option<BestPlace<'a>>, AllocError> {
         let Some(output) = search.written_file() else {
             return Ok(None);
         };
         let name = format!(in rt.alloc(); "{output}.best")?;
         let found = id_of(fs::metadata(rt, &name));
-        if kept.has_to_stay(found) || !is_plain(rt, output) || !is_plain(rt, &name) {
+        if inputs.is_protected(found) || !is_plain(rt, output) || !is_plain(rt, &name) {
             return Ok(None);
         }
         let mut place = BestPlace {
             rt,
             name,
             output,
-            problem: kept.problem.and(Some(search.problem_path())),
-            stays: kept.is_initial(found),
+            problem: inputs.problem.and(Some(search.problem_path())),
+            stays: inputs.is_initial(found),
             own: None,
             other: None,
         };

@@ -13,7 +13,7 @@ use crate::refusal::Refusal;
 use crate::report;
 use crate::words::words_of_call;
 use std::process::ExitCode;
-use tk_command_line::{Asked, parse};
+use tk_command_line::{Request, parse};
 
 /// Parses the arguments of the program, runs the command that they request, and reports why it stops if it does.
 pub fn run_call(rt: &HostRuntime) -> ExitCode {
@@ -26,46 +26,46 @@ pub fn run_call(rt: &HostRuntime) -> ExitCode {
 /// Runs the command that the arguments request.
 fn answer<'a>(rt: &'a HostRuntime, words: &'a [String]) -> ExitCode {
     match parse(rt, words) {
-        Ok(asked) => {
-            let json = asked.is_json();
-            report::end(rt, run(rt, asked), json)
+        Ok(request) => {
+            let json = request.is_json();
+            report::end(rt, run(rt, request), json)
         }
         Err(reason) => report::tell(rt, &Refusal::from(reason)),
     }
 }
 
 /// Runs a subcommand, or prints completions.
-fn run<'a>(rt: &'a HostRuntime, asked: Asked<'a>) -> Result<ExitCode, Refusal<'a>> {
-    match asked {
-        Asked::Check {
+fn run<'a>(rt: &'a HostRuntime, request: Request<'a>) -> Result<ExitCode, Refusal<'a>> {
+    match request {
+        Request::Check {
             problem,
             tours,
             json,
         } => check_command(rt, problem, &tours, json),
-        Asked::Checksol {
+        Request::Checksol {
             problem,
             solutions,
             json,
         } => checksol_command(rt, problem, &solutions, json),
-        Asked::Completions { shell } => completions_command(rt, shell),
-        Asked::Explain { what, line } => explain_command(rt, what, line),
-        Asked::Info { problem, json } => info_command(rt, problem, json),
-        Asked::Matrix {
+        Request::Completions { shell } => completions_command(rt, shell),
+        Request::Explain { what, line } => explain_command(rt, what, line),
+        Request::Info { problem, json } => info_command(rt, problem, json),
+        Request::Matrix {
             problem,
             format,
             json,
         } => matrix_command(rt, problem, format, json),
-        Asked::Near {
+        Request::Near {
             problem,
             length,
             json,
         } => near_command(rt, problem, length, json),
-        Asked::Plot {
+        Request::Plot {
             problem,
             claim,
             html,
         } => plot_command(rt, problem, claim, html),
-        Asked::Solve {
+        Request::Solve {
             file,
             options,
             shown,

@@ -18,16 +18,16 @@ const KINDS: [Kind; 4] = [Kind::Problem, Kind::Tour, Kind::Solution, Kind::Param
 
 /// Why a file was not read.
 #[derive(Drop)]
-pub enum Unread {
+pub enum ReadFailure {
     /// Reading failed after these bytes.
     Failed(Vec<u8>),
     /// Memory ran out.
     NoMemory,
 }
 
-impl From<AllocError> for Unread {
-    fn from(_: AllocError) -> Unread {
-        Unread::NoMemory
+impl From<AllocError> for ReadFailure {
+    fn from(_: AllocError) -> ReadFailure {
+        ReadFailure::NoMemory
     }
 }
 
@@ -35,20 +35,20 @@ impl From<AllocError> for Unread {
 /// bytes can change the explanation.
 ///
 /// # Errors
-/// `Unread`, as it says.
+/// `ReadFailure`, as it says.
 pub fn read_explained(
     alloc: Global,
     name: &str,
     line: Option<u64>,
     input: &mut Input,
-) -> Result<Vec<u8>, Unread> {
+) -> Result<Vec<u8>, ReadFailure> {
     let mut text = Vec::new(alloc);
     let mut buf = [0; 8192];
     let mut look = FIRST_LOOK;
     for _ in 0..u64::MAX {
         let piece = match input.read(&mut buf) {
             Ok(count) => &buf[..count],
-            Err(_) => return Err(Unread::Failed(text)),
+            Err(_) => return Err(ReadFailure::Failed(text)),
         };
         if piece.is_empty() || text.len() as u64 > TEXT_LIMIT {
             return Ok(text);

@@ -13,6 +13,7 @@ mod found;
 mod info_object;
 mod input;
 mod judged;
+mod log;
 mod message;
 mod objects;
 mod output;

@@ -146,6 +146,25 @@ impl RouteSearchObject {
     }
 }
 
+/// An improvement of a run of a search for a tour.
+#[derive(Clone, Copy, Serialize)]
+pub struct TourImprovement {
+    pub seconds: f64,
+    pub run: u32,
+    pub trial: u32,
+    pub length: i64,
+}
+
+/// An improvement of a run of a search between routes.
+#[derive(Clone, Copy, Serialize)]
+pub struct RouteImprovement {
+    pub seconds: f64,
+    pub run: u32,
+    pub trial: u32,
+    pub cost: i64,
+    pub routes: u64,
+}
+
 /// The names of keys.
 ///
 /// # Errors

@@ -3,7 +3,7 @@ use crate::objects::{Judgement, ListFault};
 use crate::shown::shown_on_output;
 use serde::Serialize;
 use serde_json::to_string;
-use std::alloc::AllocError;
+use std::alloc::{AllocError, Global};
 use std::fmt::Display;
 use std::io::Write;
 use tk_writers::WriteFault;
@@ -34,11 +34,19 @@ impl From<AllocError> for Unprinted {
 /// # Errors
 /// Why it was not printed.
 pub fn print_json<T: Serialize>(rt: &HostRuntime, value: &T) -> Result<(), Unprinted> {
-    let Ok(mut text) = to_string(rt.alloc(), value) else {
-        return Err(Unprinted::NoMemory);
+    print_bytes(rt, json_line(rt.alloc(), value)?.as_bytes())
+}
+
+/// A value as a JSON object, with a line end.
+///
+/// # Errors
+/// `AllocError` if memory runs out.
+pub fn json_line<T: Serialize>(alloc: Global, value: &T) -> Result<String, AllocError> {
+    let Ok(mut text) = to_string(alloc, value) else {
+        return Err(AllocError);
     };
     text.push_str("\n")?;
-    print_bytes(rt, text.as_bytes())
+    Ok(text)
 }
 
 /// Prints a value on a line of its own.

@@ -191,7 +191,7 @@ impl From<NoRequest> for Refusal<'_> {
         match reason {
             NoRequest::NoMemory => Refusal::NoMemory,
             NoRequest::Unwritten => Refusal::Unwritten,
-            NoRequest::Told(status) => Refusal::NoRequest(status),
+            NoRequest::Reported(status) => Refusal::NoRequest(status),
         }
     }
 }

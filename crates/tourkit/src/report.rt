@@ -134,6 +134,12 @@ pub fn note(rt: &HostRuntime, key: &str, name: &str, slip: &str) {
     let _ = eprintln!(rt; "tourkit: note: {key} names the file '{name}', including {slip}");
 }
 
+/// Notes that nothing more is written to the log of a search.
+pub fn end_of_log(rt: &HostRuntime, name: &str) {
+    let name = shown_name(rt, name);
+    let _ = eprintln!(rt; "tourkit: note: {name} cannot be written, so the log ends there");
+}
+
 /// Notes that the file for the best tour so far contains a tour from an earlier search.
 pub fn earlier_tour(rt: &HostRuntime, name: &str, length: i64, search: &Search<'_, '_>) {
     let name = shown_name(rt, name);

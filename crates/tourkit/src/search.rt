@@ -1,17 +1,26 @@
-//! A search that the command line or a parameter file requests: its parameters and its files.
+//! A search that the command line or a parameter file requests: its settings and its files.
+ghost use Rattle.std.specs.Prelude.{◌≤◌, length};
+ghost use Rattle.tk_params.specs.Keys.{all_keys};
 
 use crate::input::{Input, open, open_file, open_two, path_of};
 use crate::refusal::Refusal;
 use tk_command_line::SearchOptions;
-use tk_params::{Key, Params};
+use tk_params::{Key, Params, SearchSettings};
+
+/// What requests a search.
+#[derive(Clone, Copy)]
+pub enum Requester<'p, 'a> {
+    /// The keys of a parameter file.
+    Keys(&'p Params),
+    /// Options, with the settings that they request.
+    Options(&'p SearchOptions<'a>, SearchSettings),
+}
 
 /// A search, requested by a parameter file or by options.
 #[derive(Clone, Copy)]
 pub struct Search<'p, 'a> {
-    /// Its parameters.
-    pub params: &'p Params,
-    /// The options that request it; `None` for a parameter file.
-    pub options: Option<&'p SearchOptions<'a>>,
+    /// What requests it.
+    pub requester: Requester<'p, 'a>,
     /// The parameter file or, with options, the problem file.
     pub file: &'a str,
     /// The problem file.
@@ -28,8 +37,7 @@ impl<'a> Search<'a, 'a> {
     /// The search that a parameter file requests.
     pub fn by_keys(file: &'a str, params: &'a Params) -> Search<'a, 'a> {
         Search {
-            params,
-            options: None,
+            requester: Requester::Keys(params),
             file,
             problem: params.problem_file(),
             initial: params.initial_tour_file(),
@@ -44,12 +52,11 @@ impl<'p, 'a> Search<'p, 'a> {
     /// routes.
     pub fn by_options(
         problem: &'a str,
-        params: &'p Params,
         options: &'p SearchOptions<'a>,
+        settings: SearchSettings,
     ) -> Search<'p, 'a> {
         Search {
-            params,
-            options: Some(options),
+            requester: Requester::Options(options, settings),
             file: problem,
             problem,
             initial: options.initial(),
@@ -60,17 +67,30 @@ impl<'p, 'a> Search<'p, 'a> {
 
     /// Whether options request the search.
     pub fn is_by_options(&self) -> bool {
-        self.options.is_some()
+        matches!(self.requester, Requester::Options(..))
+    }
+
+    /// The keys that were read but are not used.
+    pub fn ignored(&self) -> &'p [Key]
+        ensures { length result.now ≤ length all_keys }
+    {
+        match self.requester {
+            Requester::Keys(params) => params.ignored(),
+            Requester::Options(..) => &[],
+        }
     }
 
     /// Whether the search of a CVRP is between its routes.
     pub fn is_between_routes(&self) -> bool {
-        self.options.is_some_and(|options| !options.within_routes)
+        matches!(self.requester, Requester::Options(options, _) if !options.within_routes)
     }
 
     /// The number of vehicles that there are for the routes, if the options state it.
     pub fn vehicles(&self) -> Option<u32> {
-        self.options.and_then(|options| options.vehicles)
+        match self.requester {
+            Requester::Keys(_) => None,
+            Requester::Options(options, _) => options.vehicles,
+        }
     }
 
     /// Opens the problem and, if there is one, the initial tour or solution. `-` is standard input on the command line,
@@ -129,11 +149,17 @@ impl<'p, 'a> Search<'p, 'a> {
         }
     }
 
+    /// Whether each run begins with a solution.
+    fn begins_with_solution(&self) -> bool {
+        matches!(self.requester, Requester::Options(options, _) if options.initial_solution.is_some())
+    }
+
     /// The name of a key in messages: that of the option, if options request the search.
     pub fn named(&self, key: Key) -> &'static str {
         match key {
             Key::ProblemFile if self.is_by_options() => "PROBLEM",
             Key::TourFile if self.is_by_options() => "--output",
+            Key::InitialTourFile if self.begins_with_solution() => "--initial-solution",
             Key::InitialTourFile if self.is_by_options() => "--initial-tour",
             _ => key.word(),
         }

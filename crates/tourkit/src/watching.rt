@@ -1,22 +1,24 @@
 //! The observer of a search.
 use crate::best::BestFile;
 use crate::found::{Found, copied_routes};
+use crate::log::Log;
 use crate::progress::{ProgressLine, Stage};
 use crate::search::Search;
-use crate::written::Kept;
+use crate::written::InputFiles;
 use std::alloc::AllocError;
 use tk_engines::{RouteProgress, RouteRun, RouteWatch, write_route_run_line, write_run_line};
 use tk_solve::{Progress, RunReport, Watch};
 use tk_writers::ToWrite;
 
-/// Shows the status line on a terminal, prints the lines of runs on standard error, and keeps the best result in a
-/// file.
+/// Shows the status line on a terminal, prints the lines of runs on standard error, keeps the best result in a file,
+/// and writes the log.
 #[derive(Drop)]
 pub struct SearchWatch<'a> {
     rt: &'a HostRuntime,
     line: ProgressLine<'a>,
     lines: bool,
     best: BestFile<'a>,
+    log: Log<'a>,
     /// The best routes of the run so far, which the search shows only once. If they are not saved, there are none.
     routes: Vec<Vec<u32>>,
 }
@@ -29,14 +31,16 @@ impl<'a> SearchWatch<'a> {
     pub fn new(
         rt: &'a HostRuntime,
         search: &Search<'_, 'a>,
-        kept: Kept,
+        inputs: InputFiles,
         lines: bool,
+        log: Log<'a>,
     ) -> Result<SearchWatch<'a>, AllocError> {
         Ok(SearchWatch {
             rt,
             line: ProgressLine::new(rt),
             lines,
-            best: BestFile::new(rt, search, kept)?,
+            best: BestFile::new(rt, search, inputs)?,
+            log,
             routes: Vec::new(rt.alloc()),
         })
     }
@@ -72,6 +76,7 @@ impl Watch for SearchWatch<'_> {
 
     fn trial(&mut self, progress: &Progress, best: &[u32]) {
         self.line.trial(&Stage::of_tour(progress));
+        self.log.note_tour(&self.line, progress);
         self.best.show(
             progress.best,
             Found::Tour(best),
@@ -97,6 +102,7 @@ impl RouteWatch for SearchWatch<'_> {
     fn trial(&mut self, progress: &RouteProgress, better: Option<&[Vec<u32>]>) {
         self.line.trial(&Stage::of_routes(progress));
         if let Some(routes) = better {
+            self.log.note_routes(&self.line, progress, routes.len());
             self.copy(routes);
         }
         self.best

@@ -9,7 +9,7 @@ use tk_params::Key;
 
 /// The files that `solve` reads, as far as they are regular files.
 #[derive(Clone, Copy)]
-pub struct Kept {
+pub struct InputFiles {
     /// The parameter file.
     pub parameters: Option<FileId>,
     /// The problem file.
@@ -18,9 +18,9 @@ pub struct Kept {
     pub initial: Option<FileId>,
 }
 
-impl Kept {
+impl InputFiles {
     /// Whether the file that was found is the problem file or the parameter file, which must not be overwritten.
-    pub fn has_to_stay(&self, found: Option<FileId>) -> bool {
+    pub fn is_protected(&self, found: Option<FileId>) -> bool {
         found.is_some() && (found == self.problem || found == self.parameters)
     }
 
@@ -37,11 +37,11 @@ impl Kept {
 pub fn check_written<'a>(
     rt: &HostRuntime,
     search: &Search<'_, 'a>,
-    kept: Kept,
+    inputs: InputFiles,
 ) -> Result<(), Refusal<'a>> {
     for key in [Key::TourFile, Key::SolutionFile] {
         if let Some(name) = search.file_of(key) {
-            check_other(rt, search, key, name, kept)?;
+            check_other(rt, search, key, name, inputs)?;
             find_place(rt, name)?;
         }
     }
@@ -54,17 +54,17 @@ fn check_other<'a>(
     search: &Search<'_, 'a>,
     key: Key,
     name: &str,
-    kept: Kept,
+    inputs: InputFiles,
 ) -> Result<(), Refusal<'a>> {
     let Some(found) = id_of(fs::metadata(rt, name)) else {
         return Ok(());
     };
     let named = search.named(key);
-    if kept.problem == Some(found) {
+    if inputs.problem == Some(found) {
         let misfit = KeyMisfit::SameFile(search.named(Key::ProblemFile));
         return Err(Refusal::UnfitKey(search.file, named, misfit));
     }
-    if kept.parameters == Some(found) {
+    if inputs.parameters == Some(found) {
         let misfit = KeyMisfit::ParameterFile;
         return Err(Refusal::UnfitKey(search.file, named, misfit));
     }

@@ -1,11 +1,11 @@
 mod ArrayLists
-mod HandingOut
+mod HandedTexts
 mod InMemory
 mod PlotTexts
 mod PointArrays
 mod Refusals
 mod RouteTexts
 mod SolveTexts
-mod Stops
+mod EngineStops
 mod TextsSaid
 mod Written

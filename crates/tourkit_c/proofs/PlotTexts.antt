@@ -9,12 +9,12 @@ use Rattle.tk_engines.specs.Engine.{IsGiven, ReadsProblem, ReadsSolution, ReadsT
 use Rattle.tk_words.specs.declared.sources.source.Source as sources
 use Rattle.tk_writers.specs.declared.output.sink.Sink as sinks
 use Rattle.tk_engines.specs.declared.fault.Fault.{Fault}
-use Rattle.tk_picture.specs.declared.picture.Form.{Form}
+use Rattle.tk_picture.specs.declared.picture.OutputFormat.{OutputFormat}
 use Rattle.tk_engines.specs.Plot.{Claim, Drawn, Nothing, Output, ReadsClaim, Refused, RoutesClaim, TourClaim}
 use Rattle.tk_engines.specs.Plot.{WritesOutput, plot_task}
 use Rattle.tk_engines.specs.declared.engines.plotted.Plotted.{Plotted}
 use Rattle.tourkit_c.proofs.TextsSaid.{says}
-use Rattle.tourkit_c.proofs.Stops.{solution_stop, tour_stop}
+use Rattle.tourkit_c.proofs.EngineStops.{solution_stop, tour_stop}
 use Rattle.tourkit_c.specs.Answers.{IsStop, NeverClashes}
 use Rattle.tourkit_c.specs.Plotted.{ClaimSays, IsPlotOf, IsSolutionFault, IsTourFault, line_in, picture_in, plot_misfit}
 use Rattle.tourkit_c.specs.Texts.{TextSays}
@@ -37,35 +37,37 @@ appended old new bs items e i h =
 untouched : (old new : Option (List ℕ)) (items : List ℕ) → old ≡ Some [] → new ≡ Some items → new ≡ old → items ≡ []
 untouched old new items e i h = ap (λ (o : Option (List ℕ)). unwrap_or o []) (sym i ∙ h ∙ e)
 
-pub written_of : {W T : Type 0} (outs : sinks.Ghosts W) (tolds : sinks.Ghosts T) (out out' : W) (told told' : T)
+pub written_of : {W T : Type 0} (outs : sinks.Ghosts W) (reports : sinks.Ghosts T) (out out' : W)
+    (reported reported' : T)
     (items lines : List ℕ) (output : Output)
     → outs.taken out ≡ Some [] → outs.taken out' ≡ Some items
-    → tolds.taken told ≡ Some [] → tolds.taken told' ≡ Some lines
-    → WritesOutput outs tolds out out' told told' (Ok tt) output →
+    → reports.taken reported ≡ Some [] → reports.taken reported' ≡ Some lines
+    → WritesOutput outs reports out out' reported reported' (Ok tt) output →
     (items ≡ picture_in output) × (lines ≡ line_in output)
-written_of outs tolds out out' told told' items lines (Drawn picture) e i f j h = (
+written_of outs reports out out' reported reported' items lines (Drawn picture) e i f j h = (
   appended (outs.taken out) (outs.taken out') picture items e i h.0.0,
-  untouched (tolds.taken told) (tolds.taken told') lines f j h.1.0,
+  untouched (reports.taken reported) (reports.taken reported') lines f j h.1.0,
 )
-written_of outs tolds out out' told told' items lines (Refused line) e i f j h = (
+written_of outs reports out out' reported reported' items lines (Refused line) e i f j h = (
   untouched (outs.taken out) (outs.taken out') items e i h.0.0,
-  appended (tolds.taken told) (tolds.taken told') line lines f j h.1.0,
+  appended (reports.taken reported) (reports.taken reported') line lines f j h.1.0,
 )
 
 -- the output of the engine, in terms of its texts
 pub plot_said : {S C W T : Type 0} (source : sources.Ghosts S) (old new : S) (claims : sources.Ghosts C)
-    (claim_old claim_new : C) (outs : sinks.Ghosts W) (out out' : W) (tolds : sinks.Ghosts T) (told told' : T)
-    (form : Form) (given : Bool) (answer : Plotted) (problem claim items lines : List ℕ)
+    (claim_old claim_new : C) (outs : sinks.Ghosts W) (out out' : W) (reports : sinks.Ghosts T) (reported reported' : T)
+    (form : OutputFormat) (given : Bool) (answer : Plotted) (problem claim items lines : List ℕ)
     → IsGiven (plot_task form given) (ReadsProblem source old new) (ReadsClaim given claims claim_old claim_new)
-    (WritesOutput outs tolds out out' told told' (Ok tt)) answer
+    (WritesOutput outs reports out out' reported reported' (Ok tt)) answer
     → source.left old ≡ Some problem → claims.left claim_old ≡ Some claim
     → outs.taken out ≡ Some [] → outs.taken out' ≡ Some items
-    → tolds.taken told ≡ Some [] → tolds.taken told' ≡ Some lines
+    → reports.taken reported ≡ Some [] → reports.taken reported' ≡ Some lines
     → (output : Output) × IsPlotOf form given problem claim answer output × (items ≡ picture_in output)
     × (lines ≡ line_in output)
-plot_said source old new claims claim_old claim_new outs out out' tolds told told' form given answer problem claim
+plot_said source old new claims claim_old claim_new outs out out' reports reported reported' form given answer problem
+    claim
     items lines h e f g i j k =
-    let w = written_of outs tolds out out' told told' items lines h.text g i j k
+    let w = written_of outs reports out out' reported reported' items lines h.text g i j k
     h.written in (
       h.text,
       record {

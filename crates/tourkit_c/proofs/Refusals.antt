@@ -1,7 +1,7 @@
 -- What the answer to rejected texts reports, by the fault that stopped the engine.
 use Rattle.std.proofs.Common.{◌≡◌, ℕ, ◌+◌, ◌≤◌, ◌⊎◌, ◌∙◌, inl, inr, List, Option, Err, ap, arith, refl, subst}
 use Rattle.tk_text.specs.Problem.{ProblemIs, problem_texts}
-use Rattle.tk_text.specs.Texts.{IsToldOf, OfText, Texts, answer_of, cause_of}
+use Rattle.tk_text.specs.Texts.{IsReportedOf, OfText, Texts, answer_of, cause_of}
 use Rattle.tk_words.specs.declared.fault.TextFault.{TextFault}
 use Rattle.tk_words.specs.declared.fault.TextKind.{TextKind}
 use Rattle.tk_words.specs.declared.fault.TextKind.TheVariants as kinds
@@ -24,40 +24,40 @@ use Rattle.tourkit_c.specs.Texts.{HasFault}
 use Rattle.tourkit_c.specs.declared.answer.Answer.{Answer}
 
 -- an answer with status 2 reports a fault of the text itself, with its line and kind
-told_kind : (number line : ℕ) (kind : TextKind) (answer : Answer) → answer.status ≡ 2
+reported_kind : (number line : ℕ) (kind : TextKind) (answer : Answer) → answer.status ≡ 2
     → answer ≡ kind_answer kind number line answer.needed
     → (answer ≡ refused number line (text_number kind) answer.needed) × (cause_of kind ≡ OfText)
-told_kind number line kinds.NoMemory answer two is = absurd (omega (arith, ap (λ (a : Answer). a.status) is))
-told_kind number line kinds.Read answer two is = absurd (omega (arith, ap (λ (a : Answer). a.status) is))
-told_kind number line kind answer two is = (is, refl)
+reported_kind number line kinds.NoMemory answer two is = absurd (omega (arith, ap (λ (a : Answer). a.status) is))
+reported_kind number line kinds.Read answer two is = absurd (omega (arith, ap (λ (a : Answer). a.status) is))
+reported_kind number line kind answer two is = (is, refl)
 
 pub faulty : {V : Type 0} (texts : Texts V TextFault) (number : ℕ) (text : List ℕ) (f : TextFault) (answer : Answer)
     → answer.status ≡ 2 → texts.cause f ≡ cause_of f.kind → answer ≡ text_answer number f answer.needed →
     HasFault texts text f → IsFaulty texts number text answer
 faulty texts number text f answer two cause is h =
-    let told = told_kind number f.line f.kind answer two is in
+    let reported = reported_kind number f.line f.kind answer two is in
     record {
       fault = f;
-      told = told.0;
-      is = subst (IsToldOf (Unit {0}) (λ e. answer_of texts text ≡ Err e) f) (cause ∙ told.1) h;
+      reported = reported.0;
+      is = subst (IsReportedOf (Unit {0}) (λ e. answer_of texts text ≡ Err e) f) (cause ∙ reported.1) h;
     }
 
--- like told_kind, for the parameters, which are the first text
-told_params : (line : ℕ) (kind : ParamKind) (answer : Answer) → answer.status ≡ 2
+-- like reported_kind, for the parameters, which are the first text
+reported_params : (line : ℕ) (kind : ParamKind) (answer : Answer) → answer.status ≡ 2
     → answer ≡ param_kind_answer kind line answer.needed
     → (answer ≡ refused 1 line (param_number kind) answer.needed) × (param_cause_of kind ≡ OfText)
-told_params line params.NoMemory answer two is = absurd (omega (arith, ap (λ (a : Answer). a.status) is))
-told_params line params.Read answer two is = absurd (omega (arith, ap (λ (a : Answer). a.status) is))
-told_params line kind answer two is = (is, refl)
+reported_params line params.NoMemory answer two is = absurd (omega (arith, ap (λ (a : Answer). a.status) is))
+reported_params line params.Read answer two is = absurd (omega (arith, ap (λ (a : Answer). a.status) is))
+reported_params line kind answer two is = (is, refl)
 
 pub params_refused : (parameters : List ℕ) (f : ParamFault) (answer : Answer) → answer.status ≡ 2
     → answer ≡ param_answer f answer.needed → HasParamFault parameters f → AreParamsRefused parameters answer
 params_refused parameters f answer two is h =
-    let told = told_params f.line f.kind answer two is in
+    let reported = reported_params f.line f.kind answer two is in
     record {
       fault = f;
-      told = told.0;
-      is = subst (IsToldOf (Unit {0}) (λ e. params_answer parameters ≡ Err e) f) told.1 h;
+      reported = reported.0;
+      is = subst (IsReportedOf (Unit {0}) (λ e. params_answer parameters ≡ Err e) f) reported.1 h;
     }
 
 -- the answer to a clash reports the text that clashes
@@ -78,7 +78,7 @@ module _ (misfit : ProblemIs → Option Fault) (Clash : ProblemIs → Fault → 
     (Second : ProblemIs → Answer → Type 0) (first : ℕ) (some : 1 ≤ first) (problem : List ℕ) (answer : Answer) where
   first_refused : IsFaulty problem_texts first problem answer → IsRightRefusal misfit Clash Second first problem answer
   first_refused h =
-      let here : answer.text ≡ first = ap (λ (a : Answer). a.text) h.told in
+      let here : answer.text ≡ first = ap (λ (a : Answer). a.text) h.reported in
       record {
         known = inr (inl here);
         is_problem = λ _. h;
@@ -118,10 +118,10 @@ module _ (misfit : ProblemIs → Option Fault) (Clash : ProblemIs → Fault → 
   right_refusal Tour Solution two tour solution (faults.Problem f) is h =
       first_refused (faulty problem_texts first problem f answer two refl is h)
   right_refusal Tour Solution two tour solution (faults.Tour f) is h =
-      second_refused (ap (λ (a : Answer). a.text) (told_kind (first + 1) f.line f.kind answer two is).0)
+      second_refused (ap (λ (a : Answer). a.text) (reported_kind (first + 1) f.line f.kind answer two is).0)
       (record { p = h.p; is_problem = h.is_problem; fits = h.fits; fact = inl (tour h.p f h.fact is) })
   right_refusal Tour Solution two tour solution (faults.Solution f) is h =
-      second_refused (ap (λ (a : Answer). a.text) (told_kind (first + 1) f.line f.kind answer two is).0)
+      second_refused (ap (λ (a : Answer). a.text) (reported_kind (first + 1) f.line f.kind answer two is).0)
       (record { p = h.p; is_problem = h.is_problem; fits = h.fits; fact = inl (solution h.p f h.fact is) })
   right_refusal Tour Solution two tour solution (faults.Initial f) is h =
       second_refused (clash_text (first + 1) f answer two is)

@@ -6,7 +6,7 @@ use Rattle.tk_text.specs.Solution.{Solution, solution_texts}
 use Rattle.tk_words.specs.declared.sources.source.Source as sources
 use Rattle.tk_writers.specs.declared.output.sink.Sink as sinks
 use Rattle.tk_route_search.specs.Watching.{WereShown}
-use Rattle.tk_route_search.specs.declared.watch.Unwatched.{Unwatched}
+use Rattle.tk_route_search.specs.declared.watch.NoObserver.{NoObserver}
 use Rattle.tk_engines.specs.Between.{IsStartFault, ReadsStart, between_files_task}
 use Rattle.tk_engines.specs.Engine.{IsGiven, ReadsProblem}
 use Rattle.tk_engines.specs.ReadProblems.{instance_in}
@@ -16,7 +16,7 @@ use Rattle.tk_engines.specs.declared.between_options.BetweenOptions.{BetweenOpti
 use Rattle.tk_engines.specs.declared.fault.Fault.{Fault}
 use Rattle.tourkit_c.proofs.PlotTexts.{appended}
 use Rattle.tourkit_c.proofs.SolveTexts.{files_same}
-use Rattle.tourkit_c.proofs.Stops.{solution_stop}
+use Rattle.tourkit_c.proofs.EngineStops.{solution_stop}
 use Rattle.tourkit_c.proofs.TextsSaid.{says}
 use Rattle.tourkit_c.specs.Answers.{IsStop, NoFault}
 use Rattle.tourkit_c.specs.SolvedRoutes.{AreSolvedBy, IsStartClash, IsStartOf, IsStartTextFault, StartSays}
@@ -33,7 +33,7 @@ start_says given source old new text (Some solution) e h =
 -- the output of the engine, in terms of its texts
 pub between_said : {S I F W : Type 0} (source : sources.Ghosts S) (old new : S) (initials : sources.Ghosts I)
     (initial_old initial_new : I) (files : sinks.Ghosts F) (file file' : F) (outs : sinks.Ghosts W) (out out' : W)
-    (o : BetweenOptions) (before after : Unwatched) (problem initial items lines : List ℕ)
+    (o : BetweenOptions) (before after : NoObserver) (problem initial items lines : List ℕ)
     → IsGiven (between_files_task o (WereShown (λ old event new. new ≡ old) before after))
     (ReadsProblem source old new) (λ _. ReadsStart o.from_solution initials initial_old initial_new)
     (WritesFiles files outs file file' out out' (Ok tt)) tt

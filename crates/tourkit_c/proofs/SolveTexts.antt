@@ -5,14 +5,14 @@ use Rattle.tk_text.specs.Problem.{ProblemIs, problem_texts}
 use Rattle.tk_text.specs.Tour.{tour_texts}
 use Rattle.tk_words.specs.declared.sources.source.Source as sources
 use Rattle.tk_writers.specs.declared.output.sink.Sink as sinks
-use Rattle.tk_engines.specs.Asked.{ParamsAre}
+use Rattle.tk_engines.specs.Requested.{ParamsAre}
 use Rattle.tk_engines.specs.Engine.{IsGiven, ReadsProblem}
 use Rattle.tk_engines.specs.Solve.{Files, IsInitial, ReadsInitial, WritesFiles, solve_task}
 use Rattle.tk_engines.specs.declared.fault.Fault.{Fault}
 use Rattle.tk_solve.specs.Watching.{WereShown}
-use Rattle.tk_solve.specs.declared.watch.Unwatched.{Unwatched}
+use Rattle.tk_solve.specs.declared.watch.NoObserver.{NoObserver}
 use Rattle.tourkit_c.proofs.PlotTexts.{appended}
-use Rattle.tourkit_c.proofs.Stops.{tour_stop}
+use Rattle.tourkit_c.proofs.EngineStops.{tour_stop}
 use Rattle.tourkit_c.proofs.TextsSaid.{says}
 use Rattle.tourkit_c.specs.Answers.{IsStop, NoFault}
 use Rattle.tourkit_c.specs.Solved.{InitialSays, IsClashOf, IsInitialFault, IsSolvedBy, misfit_of}
@@ -34,7 +34,7 @@ files_same f file out e i =
 -- the output of the engine, in terms of its texts
 pub solve_said : {S I F W : Type 0} (source : sources.Ghosts S) (old new : S) (initials : sources.Ghosts I)
     (initial_old initial_new : I) (files : sinks.Ghosts F) (file file' : F) (outs : sinks.Ghosts W) (out out' : W)
-    (params : ParamsAre) (before after : Unwatched) (problem initial items lines : List ℕ)
+    (params : ParamsAre) (before after : NoObserver) (problem initial items lines : List ℕ)
     → IsGiven (solve_task params (WereShown (λ old event new. new ≡ old) before after))
     (ReadsProblem source old new)
     (λ _. ReadsInitial (is_some params.initial_tour_file) initials initial_old initial_new)

@@ -2,7 +2,7 @@
 use Rattle.std.proofs.Common.{◌≡◌, ℕ, Bool, List, Option, Some, Ok, Err, subst}
 use Rattle.std.specs.Prelude.{IfSome}
 use Rattle.tk_words.specs.declared.fault.TextFault.{TextFault}
-use Rattle.tk_text.specs.Texts.{Cause, OfText, OfSource, OfMemory, Texts, IsAnswer, IsFaultOf, IsToldOf, answer_of}
+use Rattle.tk_text.specs.Texts.{Cause, OfText, OfSource, OfMemory, Texts, IsAnswer, IsFaultOf, IsReportedOf, answer_of}
 use Rattle.tk_words.specs.declared.sources.source.Source as sources
 use Rattle.tk_engines.specs.Engine.{IsRead, IsRefused}
 use Rattle.tourkit_c.specs.Texts.{HasFault, TextSays}
@@ -17,7 +17,7 @@ says {V} texts source old new text v e h =
 -- the fault of a source whose bytes are specified is that of its text
 pub has_cause : {V E : Type 0} (texts : Texts V E) (text : List ℕ) (broken : Bool) (new : Option (List ℕ)) (f : E)
     (cause : Cause) → IsFaultOf texts broken (Some text) new f cause →
-    IsToldOf (Unit {0}) (λ e. answer_of texts text ≡ Err e) f cause
+    IsReportedOf (Unit {0}) (λ e. answer_of texts text ≡ Err e) f cause
 has_cause texts text broken new f OfText h = h.2.answer
 has_cause texts text broken new f OfSource h = tt
 has_cause texts text broken new f OfMemory h = tt

@@ -13,7 +13,7 @@ use Rattle.tourkit_c.specs.declared.answer.Answer.{Answer}
 pub record IsFaulty {V : Type 0} (texts : Texts V TextFault) (number : ℕ) (text : List ℕ)
     (answer : Answer) : Type 0 where
   pub fault : TextFault
-  pub told : answer ≡ refused number fault.line (text_number fault.kind) answer.needed
+  pub reported : answer ≡ refused number fault.line (text_number fault.kind) answer.needed
   pub is : answer_of texts text ≡ Err fault
 
 -- the problem of a text does not fit the task, for this reason

@@ -10,8 +10,8 @@ use Rattle.tk_engines.specs.Plot.{without_places}
 use Rattle.tk_engines.specs.declared.fault.Fault.{Fault}
 use Rattle.tk_page.specs.PageParts.{ArePageParts}
 use Rattle.tk_picture.specs.declared.page.parts.Parts.{Parts}
-use Rattle.tk_picture.specs.declared.picture.Form.{Form}
-use Rattle.tk_picture.specs.declared.picture.Form.TheVariants as forms
+use Rattle.tk_picture.specs.declared.picture.OutputFormat.{OutputFormat}
+use Rattle.tk_picture.specs.declared.picture.OutputFormat.TheVariants as forms
 use Rattle.tourkit_c.specs.Answers.{IsFaulty}
 use Rattle.tourkit_c.specs.Texts.{AreWritten, HasFault, TextSays, route_status, tour_status}
 use Rattle.tk_words.specs.declared.fault.TextFault.{TextFault}
@@ -23,7 +23,7 @@ ClaimSays given text p Nothing = given ≡ false
 ClaimSays given text p (TourClaim cities) = (given ≡ true) × (p.routing ≡ None) × TextSays tour_texts text cities
 ClaimSays given text p (RoutesClaim s) = (given ≡ true) × (is_some p.routing ≡ true) × TextSays solution_texts text s
 
-pub record IsPlotOf (form : Form) (given : Bool) (problem claim : List ℕ) (answer : Plotted) (output : Output) :
+pub record IsPlotOf (form : OutputFormat) (given : Bool) (problem claim : List ℕ) (answer : Plotted) (output : Output) :
     Type 0 where
   pub p : ProblemIs
   pub c : Claim
@@ -48,15 +48,16 @@ line_in (Refused line) = line
 
 -- the picture of a problem and of its tour or routes was written to one buffer, in this format, or the line that
 -- reports their fault to the other
-abbrev pub HoldPlot : Form → Bool → List ℕ → List ℕ → List ℕ → List ℕ → List ℕ → List ℕ → Answer → Type 0
-HoldPlot form given problem claim out out' told told' answer =
+abbrev pub HoldPlot : OutputFormat → Bool → List ℕ → List ℕ → List ℕ → List ℕ → List ℕ → List ℕ → Answer → Type 0
+HoldPlot form given problem claim out out' reported reported' answer =
     (done : Plotted) × (output : Output) × IsPlotOf form given problem claim done output
-    × AreWritten (plot_status done) (picture_in output) out out' (line_in output) told told' answer
+    × AreWritten (plot_status done) (picture_in output) out out' (line_in output) reported reported' answer
 
 -- likewise, in an HTML page
 abbrev pub HoldPage : Bool → List ℕ → List ℕ → List ℕ → List ℕ → List ℕ → List ℕ → Answer → Type 0
-HoldPage given problem claim out out' told told' answer =
-    (parts : Parts) × ArePageParts parts × HoldPlot (forms.Page parts) given problem claim out out' told told' answer
+HoldPage given problem claim out out' reported reported' answer =
+    (parts : Parts) × ArePageParts parts × HoldPlot (forms.Page parts) given problem claim out out' reported reported'
+    answer
 
 -- a problem without coordinates cannot be drawn
 abbrev pub plot_misfit : ProblemIs → Option Fault

@@ -2,12 +2,12 @@
 use Rattle.std.specs.Prelude.{◌≡◌, ℕ, Bool, true, false, List, Option, None, Some, Ok, Err, is_some, option_map}
 use Rattle.tk_text.specs.Problem.{ProblemIs, problem_texts}
 use Rattle.tk_text.specs.Tour.{tour_texts}
-use Rattle.tk_engines.specs.Asked.{ParamsAre}
+use Rattle.tk_engines.specs.Requested.{ParamsAre}
 use Rattle.tk_engines.specs.Params.{params_answer, params_texts}
 use Rattle.tk_words.specs.declared.fault.TextFault.{TextFault}
 use Rattle.tk_params.specs.declared.fault.ParamFault.{ParamFault}
 use Rattle.tk_solve.specs.Watching.{WereShown}
-use Rattle.tk_solve.specs.declared.watch.Unwatched.{Unwatched}
+use Rattle.tk_solve.specs.declared.watch.NoObserver.{NoObserver}
 use Rattle.tk_engines.specs.Solve.{Files, IsInitial, solve_task, unfit_key}
 use Rattle.tk_engines.specs.declared.fault.Fault.{Fault}
 use Rattle.tk_engines.specs.declared.fault.Fault.TheVariants.{NotForType}
@@ -29,8 +29,8 @@ pub record IsSolvedBy (p : ParamsAre) (problem initial : List ℕ) (files : File
   pub is_problem : TextSays problem_texts problem q
   pub is_initial : InitialSays (is_some p.initial_tour_file) initial tour
   pub together : IsInitial q tour None
-  pub before : Unwatched
-  pub after : Unwatched
+  pub before : NoObserver
+  pub after : NoObserver
   pub gives : (solve_task p (WereShown (λ old event new. new ≡ old) before after)).Gives q tour tt files
 
 pub record IsSolvedOf (parameters problem initial : List ℕ) (files : Files) : Type 0 where
@@ -64,7 +64,7 @@ HasParamFault = HasFault params_texts
 -- the parameters have the fault that the answer reports
 pub record AreParamsRefused (parameters : List ℕ) (answer : Answer) : Type 0 where
   pub fault : ParamFault
-  pub told : answer ≡ refused 1 fault.line (param_number fault.kind) answer.needed
+  pub reported : answer ≡ refused 1 fault.line (param_number fault.kind) answer.needed
   pub is : params_answer parameters ≡ Err fault
 
 -- output that satisfies Solves was written to the two buffers

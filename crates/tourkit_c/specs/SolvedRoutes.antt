@@ -5,7 +5,7 @@ use Rattle.tk_text.specs.Problem.{ProblemIs, problem_texts}
 use Rattle.tk_text.specs.Solution.{Solution, solution_texts}
 use Rattle.tk_words.specs.declared.fault.TextFault.{TextFault}
 use Rattle.tk_route_search.specs.Watching.{WereShown}
-use Rattle.tk_route_search.specs.declared.watch.Unwatched.{Unwatched}
+use Rattle.tk_route_search.specs.declared.watch.NoObserver.{NoObserver}
 use Rattle.tk_engines.specs.Between.{IsStartFault, between_files_task}
 use Rattle.tk_engines.specs.ReadProblems.{instance_in}
 use Rattle.tk_engines.specs.RouteCheck.{without_routing}
@@ -60,8 +60,8 @@ pub record AreSolvedBy (o : BetweenOptions) (problem initial : List ℕ) (files 
   pub is_problem : TextSays problem_texts problem q
   pub is_initial : StartSays o.from_solution initial start
   pub together : IsStartOf q start None
-  pub before : Unwatched
-  pub after : Unwatched
+  pub before : NoObserver
+  pub after : NoObserver
   pub gives : (between_files_task o (WereShown (λ old event new. new ≡ old) before after)).Gives q start tt files
 
 -- like AreSolvedBy, for options that the caller has passed

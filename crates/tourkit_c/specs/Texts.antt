@@ -3,15 +3,15 @@
 --     HasFault texts text fault      the text has this fault, or memory ran out, or reading failed
 --     IsCheckOf problem tour verdict line      the verdict on the tour of a text, and the line that reports it
 use Rattle.std.specs.Prelude.{◌≡◌, ℕ, List, Ok, Err, length}
-use Rattle.tk_text.specs.Texts.{IsToldOf, Texts, answer_of}
+use Rattle.tk_text.specs.Texts.{IsReportedOf, Texts, answer_of}
 use Rattle.tk_text.specs.Problem.{ProblemIs, problem_texts}
 use Rattle.tk_problem.specs.declared.weights.Format.{Format}
 use Rattle.tk_text.specs.Solution.{Solution, solution_texts}
 use Rattle.tk_text.specs.Tour.{tour_texts}
 use Rattle.tk_tour.specs.declared.verdict.Verdict.{Verdict}
 use Rattle.tk_tour.specs.declared.verdict.Verdict.TheVariants as verdicts
-use Rattle.tk_routes.specs.declared.claims.verdict.RouteVerdict.{RouteVerdict}
-use Rattle.tk_routes.specs.declared.claims.verdict.RouteVerdict.TheVariants as routes
+use Rattle.tk_routes.specs.declared.checking.verdict.RouteVerdict.{RouteVerdict}
+use Rattle.tk_routes.specs.declared.checking.verdict.RouteVerdict.TheVariants as routes
 use Rattle.tourkit_c.specs.HandedOut.{handed_out}
 use Rattle.tourkit_c.specs.Outcomes.{with_status, with_status_twice}
 use Rattle.tourkit_c.specs.declared.answer.Answer.{Answer}
@@ -26,7 +26,7 @@ TextSays texts text value = answer_of texts text ≡ Ok value
 
 -- the text has this fault; nothing is known if memory ran out or reading failed
 abbrev pub HasFault : {V E : Type 0} → Texts V E → List ℕ → E → Type 0
-HasFault texts text fault = IsToldOf (Unit {0}) (λ f. answer_of texts text ≡ Err f) fault (texts.cause fault)
+HasFault texts text fault = IsReportedOf (Unit {0}) (λ f. answer_of texts text ≡ Err f) fault (texts.cause fault)
 
 -- the verdict on the tour of one text for the problem of another, and the line that reports it
 pub record IsCheckOf (problem tour : List ℕ) (verdict : Verdict) (line : List ℕ) : Type 0 where

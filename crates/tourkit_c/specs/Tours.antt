@@ -27,7 +27,7 @@ pub record IsNoCityOf (start : ℕ) (problem : List ℕ) (answer : Answer) : Typ
   pub p : ProblemIs
   pub is_problem : TextSays problem_texts problem p
   pub none : IsCity p.n start → ⊥
-  pub told : answer ≡ with_status 2 0
+  pub reported : answer ≡ with_status 2 0
 
 -- the answer reports correctly why no nearest-neighbour tour was written: the text has the fault, or its problem has no
 -- such city

@@ -12,7 +12,7 @@ mod contents;
 mod explain;
 mod hand_out;
 mod info;
-mod lists;
+mod near_and_matrix;
 mod plot;
 mod points;
 mod solve;

@@ -2,7 +2,7 @@
 ghost use Rattle.std.specs.Prelude.{◌≡◌, ◌≤◌, IfOk, IfErr};
 ghost use Rattle.tk_engines.specs.Plot.{Output};
 ghost use Rattle.tk_engines.specs.declared.engines.plotted.Plotted.{Plotted};
-ghost use Rattle.tk_picture.specs.declared.picture.Form.TheVariants.{Svg};
+ghost use Rattle.tk_picture.specs.declared.picture.OutputFormat.TheVariants.{Svg};
 ghost use Rattle.tourkit_c.specs.Answers.{IsRightRefusal, IsStop, NeverClashes};
 ghost use Rattle.tourkit_c.specs.Outcomes.{with_status};
 ghost use Rattle.tourkit_c.specs.Plotted.{HoldPage, HoldPlot, IsClaimRefused, IsPlotOf, IsSolutionFault, IsTourFault};
@@ -14,7 +14,7 @@ use crate::hand_out::hand_out;
 use std::alloc::Global;
 use tk_engines::{Fault, Plotted, plot_engine};
 use tk_page::page_parts;
-use tk_picture::Form;
+use tk_picture::OutputFormat;
 use tk_routes::RouteVerdict;
 use tk_text::{FromRead, ToWrite};
 use tk_tour::Verdict;
@@ -23,7 +23,7 @@ use tk_tour::Verdict;
 /// is empty.
 fn plotted(
     alloc: Global,
-    form: Form<'_>,
+    form: OutputFormat<'_>,
     problem: &[u8],
     claim: &[u8],
     has_claim: bool,
@@ -36,7 +36,7 @@ fn plotted(
     let mut problem = FromRead::new(problem);
     let mut claim = FromRead::new(claim);
     let mut out = ToWrite::new(Vec::new(alloc));
-    let mut told = ToWrite::new(Vec::new(alloc));
+    let mut reported = ToWrite::new(Vec::new(alloc));
     match plot_engine(
         alloc,
         &mut problem,
@@ -44,9 +44,9 @@ fn plotted(
         has_claim,
         form,
         &mut out,
-        &mut told,
+        &mut reported,
     ) {
-        Ok(plotted) => Ok((plotted, out.inner, told.inner)),
+        Ok(plotted) => Ok((plotted, out.inner, reported.inner)),
         Err(fault) => Err(fault),
     }
 }
@@ -66,20 +66,20 @@ fn status_of(plotted: Plotted) -> u32
 /// Draws a problem in a format, and the tour or the routes of another text.
 fn drawn(
     alloc: Global,
-    form: Form<'_>,
+    form: OutputFormat<'_>,
     problem: &[u8],
     claim: &[u8],
     has_claim: bool,
     out: &mut [u8],
-    told: &mut [u8],
+    reported: &mut [u8],
 ) -> Answer
     ensures given { result.status ≤ 1
-        → HoldPlot form.entry has_claim problem.now claim.now out.old out.new told.old told.new result }
+        → HoldPlot form.entry has_claim problem.now claim.now out.old out.new reported.old reported.new result }
     ensures known { result.status ≤ 3 }
     ensures refused { result.status ≡ 2
         → IsRightRefusal plot_misfit NeverClashes (IsClaimRefused has_claim claim.now) 1 problem.now result }
     ensures memory { result.status ≡ 3 → result ≡ with_status 3 result.needed }
-    ensures message { 2 ≤ result.status → IsSomeText told.old told.new result }
+    ensures message { 2 ≤ result.status → IsSomeText reported.old reported.new result }
     ensures kept { 2 ≤ result.status → out.new ≡ out.old }
 {
     match plotted(alloc, form, problem, claim, has_claim) {
@@ -87,17 +87,17 @@ fn drawn(
             Answer::ended_twice(
                 status_of(done),
                 hand_out(&picture, out),
-                hand_out(&line, told),
+                hand_out(&line, reported),
             )
         }
-        Err(fault) => stopped(alloc, 1, &fault, told),
+        Err(fault) => stopped(alloc, 1, &fault, reported),
     }
 }
 
 /// Draws a problem, and if `has_claim` is true, the tour or the routes of another text: `out` gets the picture (SVG),
-/// of `needed` bytes. If the tour or the routes have a fault, the status is 1, and `told` gets the line that reports
-/// it, of `needed_file` bytes. If a text is rejected, or the problem has no coordinates, `told` gets the message, of
-/// `needed` bytes.
+/// of `needed` bytes. If the tour or the routes have a fault, the status is 1, and `reported` gets the line that
+/// reports it, of `needed_file` bytes. If a text is rejected, or the problem has no coordinates, `reported` gets the
+/// message, of `needed` bytes.
 #[unsafe(no_mangle)]
 pub extern "C" fn tourkit_plot(
     alloc: Global,
@@ -105,19 +105,27 @@ pub extern "C" fn tourkit_plot(
     claim: &[u8],
     has_claim: bool,
     out: &mut [u8],
-    told: &mut [u8],
+    reported: &mut [u8],
     answer: &mut Answer,
 )
     ensures given { answer.new.status ≤ 1
-        → HoldPlot Svg has_claim problem.now claim.now out.old out.new told.old told.new answer.new }
+        → HoldPlot Svg has_claim problem.now claim.now out.old out.new reported.old reported.new answer.new }
     ensures known { answer.new.status ≤ 3 }
     ensures refused { answer.new.status ≡ 2
         → IsRightRefusal plot_misfit NeverClashes (IsClaimRefused has_claim claim.now) 1 problem.now answer.new }
     ensures memory { answer.new.status ≡ 3 → answer.new ≡ with_status 3 answer.new.needed }
-    ensures message { 2 ≤ answer.new.status → IsSomeText told.old told.new answer.new }
+    ensures message { 2 ≤ answer.new.status → IsSomeText reported.old reported.new answer.new }
     ensures kept { 2 ≤ answer.new.status → out.new ≡ out.old }
 {
-    *answer = drawn(alloc, Form::Svg, problem, claim, has_claim, out, told);
+    *answer = drawn(
+        alloc,
+        OutputFormat::Svg,
+        problem,
+        claim,
+        has_claim,
+        out,
+        reported,
+    );
 }
 
 /// Like `tourkit_plot`, but `out` gets an HTML page with the picture.
@@ -128,26 +136,26 @@ pub extern "C" fn tourkit_page(
     claim: &[u8],
     has_claim: bool,
     out: &mut [u8],
-    told: &mut [u8],
+    reported: &mut [u8],
     answer: &mut Answer,
 )
     ensures given { answer.new.status ≤ 1
-        → HoldPage has_claim problem.now claim.now out.old out.new told.old told.new answer.new }
+        → HoldPage has_claim problem.now claim.now out.old out.new reported.old reported.new answer.new }
     ensures known { answer.new.status ≤ 3 }
     ensures refused { answer.new.status ≡ 2
         → IsRightRefusal plot_misfit NeverClashes (IsClaimRefused has_claim claim.now) 1 problem.now answer.new }
     ensures memory { answer.new.status ≡ 3 → answer.new ≡ with_status 3 answer.new.needed }
-    ensures message { 2 ≤ answer.new.status → IsSomeText told.old told.new answer.new }
+    ensures message { 2 ≤ answer.new.status → IsSomeText reported.old reported.new answer.new }
     ensures kept { 2 ≤ answer.new.status → out.new ≡ out.old }
 {
     let parts = page_parts();
     *answer = drawn(
         alloc,
-        Form::Page(parts),
+        OutputFormat::Page(parts),
         problem,
         claim,
         has_claim,
         out,
-        told,
+        reported,
     );
 }

@@ -10,7 +10,7 @@ ghost use Rattle.tourkit_c.specs.Texts.{IsSomeText};
 use crate::answer::{Answer, params_stopped, stopped};
 use crate::hand_out::hand_out;
 use std::alloc::Global;
-use tk_engines::{Fault, ParamFault, Params, Unwatched, read_params, solve_engine};
+use tk_engines::{Fault, NoObserver, ParamFault, Params, read_params, solve_engine};
 use tk_text::{FromRead, ToWrite};
 
 /// The parameters of a text.
@@ -38,7 +38,7 @@ fn solved(
     let mut initial = FromRead::new(initial);
     let mut file = ToWrite::new(Vec::new(alloc));
     let mut out = ToWrite::new(Vec::new(alloc));
-    let mut watch = Unwatched;
+    let mut watch = NoObserver;
     match solve_engine(
         alloc,
         params,

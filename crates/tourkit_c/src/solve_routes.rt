@@ -1,7 +1,7 @@
 //! Searches between the routes of a CVRP, for texts in memory.
 ghost use Rattle.std.specs.Prelude.{◌≡◌, ◌≤◌, IfOk, IfErr, IfSome, IfNone};
 ghost use Rattle.tk_engines.specs.RouteCheck.{without_routing};
-ghost use Rattle.tk_params.specs.Asked.{IsInLimits};
+ghost use Rattle.tk_params.specs.Requested.{IsInLimits};
 ghost use Rattle.tourkit_c.specs.Answers.{IsStop, NoFault};
 ghost use Rattle.tourkit_c.specs.Outcomes.{with_status};
 ghost use Rattle.tourkit_c.specs.Solved.{HoldFiles};
@@ -13,7 +13,7 @@ use crate::answer::{Answer, REFUSED, stopped};
 use crate::hand_out::hand_out;
 use std::alloc::Global;
 use tk_engines::{BetweenOptions, Fault, between_engine};
-use tk_route_search::Unwatched;
+use tk_route_search::NoObserver;
 use tk_text::{CANDIDATE_LIMIT, FromRead, ToWrite};
 
 /// The options of a search between routes.
@@ -87,7 +87,7 @@ fn solved(
     let mut initial = FromRead::new(initial);
     let mut file = ToWrite::new(Vec::new(alloc));
     let mut out = ToWrite::new(Vec::new(alloc));
-    let mut watch = Unwatched;
+    let mut watch = NoObserver;
     match between_engine(
         alloc,
         options,

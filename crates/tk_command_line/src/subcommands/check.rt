@@ -1,7 +1,7 @@
 //! The arguments of `check`.
 
-use crate::argument::{Argument, Form, JSON_LINES, PROBLEM};
-use crate::asked::Asked;
+use crate::argument::{Argument, JSON_LINES, PROBLEM, Syntax};
+use crate::request::Request;
 use crate::subcommand::{Kind, Subcommand};
 use clap::ArgMatches;
 use clap::builder::ValueParser;
@@ -28,7 +28,7 @@ static ARGUMENTS: [Argument; 3] = [
     Argument {
         name: "TOUR",
         help: "a TSPLIB tour file, or - for standard input",
-        form: Form::Repeated,
+        syntax: Syntax::Repeated,
         values: ValueParser::String,
     },
     JSON_LINES,
@@ -50,9 +50,12 @@ pub fn subcommand() -> Subcommand {
 ///
 /// # Errors
 /// `AllocError` if memory runs out.
-pub fn asked<'a>(alloc: Global, words: &ArgMatches<'a>) -> Result<Option<Asked<'a>>, AllocError> {
+pub fn request<'a>(
+    alloc: Global,
+    words: &ArgMatches<'a>,
+) -> Result<Option<Request<'a>>, AllocError> {
     match (words.get_str("PROBLEM"), words.get_strs("TOUR")) {
-        (Some(problem), Some(tours)) => Ok(Some(Asked::Check {
+        (Some(problem), Some(tours)) => Ok(Some(Request::Check {
             problem,
             tours: tours.to_vec(alloc)?,
             json: words.get_flag("json"),

@@ -1,7 +1,7 @@
 //! The arguments of `checksol`.
 
-use crate::argument::{Argument, Form, JSON_LINES, PROBLEM};
-use crate::asked::Asked;
+use crate::argument::{Argument, JSON_LINES, PROBLEM, Syntax};
+use crate::request::Request;
 use crate::subcommand::{Kind, Subcommand};
 use clap::ArgMatches;
 use clap::builder::ValueParser;
@@ -29,7 +29,7 @@ static ARGUMENTS: [Argument; 3] = [
     Argument {
         name: "SOLUTION",
         help: "a CVRPLIB solution file, or - for standard input",
-        form: Form::Repeated,
+        syntax: Syntax::Repeated,
         values: ValueParser::String,
     },
     JSON_LINES,
@@ -51,9 +51,12 @@ pub fn subcommand() -> Subcommand {
 ///
 /// # Errors
 /// `AllocError` if memory runs out.
-pub fn asked<'a>(alloc: Global, words: &ArgMatches<'a>) -> Result<Option<Asked<'a>>, AllocError> {
+pub fn request<'a>(
+    alloc: Global,
+    words: &ArgMatches<'a>,
+) -> Result<Option<Request<'a>>, AllocError> {
     match (words.get_str("PROBLEM"), words.get_strs("SOLUTION")) {
-        (Some(problem), Some(solutions)) => Ok(Some(Asked::Checksol {
+        (Some(problem), Some(solutions)) => Ok(Some(Request::Checksol {
             problem,
             solutions: solutions.to_vec(alloc)?,
             json: words.get_flag("json"),

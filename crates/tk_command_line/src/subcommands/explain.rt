@@ -1,7 +1,7 @@
 //! The arguments of `explain`.
 
-use crate::argument::{Argument, Form};
-use crate::asked::Asked;
+use crate::argument::{Argument, Syntax};
+use crate::request::Request;
 use crate::subcommand::{Kind, Subcommand};
 use clap::ArgMatches;
 use clap::builder::ValueParser;
@@ -25,13 +25,13 @@ static ARGUMENTS: [Argument; 2] = [
     Argument {
         name: "WHAT",
         help: "the number or the name of a fault, a file, or - for standard input",
-        form: Form::Required,
+        syntax: Syntax::Required,
         values: ValueParser::String,
     },
     Argument {
         name: "LINE",
         help: "the number of a line of the file",
-        form: Form::Optional,
+        syntax: Syntax::Optional,
         values: ValueParser::Unsigned(1, u64::MAX),
     },
 ];
@@ -49,8 +49,8 @@ pub fn subcommand() -> Subcommand {
 }
 
 /// The request that these arguments make.
-pub fn asked<'a>(words: &ArgMatches<'a>) -> Option<Asked<'a>> {
-    Some(Asked::Explain {
+pub fn request<'a>(words: &ArgMatches<'a>) -> Option<Request<'a>> {
+    Some(Request::Explain {
         what: words.get_str("WHAT")?,
         line: words.get_one::<u64>("LINE"),
     })

@@ -1,7 +1,7 @@
 //! The arguments of `info`.
 
 use crate::argument::{Argument, JSON, PROBLEM};
-use crate::asked::Asked;
+use crate::request::Request;
 use crate::subcommand::{Kind, Subcommand};
 use clap::ArgMatches;
 
@@ -34,8 +34,8 @@ pub fn subcommand() -> Subcommand {
 }
 
 /// The request that these arguments make.
-pub fn asked<'a>(words: &ArgMatches<'a>) -> Option<Asked<'a>> {
-    Some(Asked::Info {
+pub fn request<'a>(words: &ArgMatches<'a>) -> Option<Request<'a>> {
+    Some(Request::Info {
         problem: words.get_str("PROBLEM")?,
         json: words.get_flag("json"),
     })

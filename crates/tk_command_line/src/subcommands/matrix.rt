@@ -1,7 +1,7 @@
 //! The arguments of `matrix`.
 
-use crate::argument::{Argument, Form, JSON, PROBLEM};
-use crate::asked::Asked;
+use crate::argument::{Argument, JSON, PROBLEM, Syntax};
+use crate::request::Request;
 use crate::subcommand::{Kind, Subcommand};
 use clap::ArgMatches;
 use clap::builder::ValueParser;
@@ -38,7 +38,7 @@ static ARGUMENTS: [Argument; 3] = [
     Argument {
         name: "FORMAT",
         help: "the order of the weights",
-        form: Form::Required,
+        syntax: Syntax::Required,
         values: ValueParser::Names(&FORMATS),
     },
     JSON,
@@ -57,8 +57,8 @@ pub fn subcommand() -> Subcommand {
 }
 
 /// The request that these arguments make.
-pub fn asked<'a>(words: &ArgMatches<'a>) -> Option<Asked<'a>> {
-    Some(Asked::Matrix {
+pub fn request<'a>(words: &ArgMatches<'a>) -> Option<Request<'a>> {
+    Some(Request::Matrix {
         problem: words.get_str("PROBLEM")?,
         format: words.get_str("FORMAT")?,
         json: words.get_flag("json"),

@@ -1,7 +1,7 @@
 //! The arguments of `near`.
 
-use crate::argument::{Argument, Form, JSON, PROBLEM};
-use crate::asked::Asked;
+use crate::argument::{Argument, JSON, PROBLEM, Syntax};
+use crate::request::Request;
 use crate::subcommand::{Kind, Subcommand};
 use clap::ArgMatches;
 use clap::builder::ValueParser;
@@ -26,7 +26,7 @@ static ARGUMENTS: [Argument; 3] = [
     Argument {
         name: "k",
         help: "length of each list, 1 to 100",
-        form: Form::Number('k', "5"),
+        syntax: Syntax::Number('k', "5"),
         values: ValueParser::Unsigned(1, CANDIDATE_LIMIT as u64),
     },
     JSON,
@@ -45,8 +45,8 @@ pub fn subcommand() -> Subcommand {
 }
 
 /// The request that these arguments make.
-pub fn asked<'a>(words: &ArgMatches<'a>) -> Option<Asked<'a>> {
-    Some(Asked::Near {
+pub fn request<'a>(words: &ArgMatches<'a>) -> Option<Request<'a>> {
+    Some(Request::Near {
         problem: words.get_str("PROBLEM")?,
         length: ListLength::of(words.get_one::<u32>("k")?)?,
         json: words.get_flag("json"),

@@ -1,7 +1,7 @@
 //! The arguments of `plot`.
 
-use crate::argument::{Argument, Form, PROBLEM};
-use crate::asked::Asked;
+use crate::argument::{Argument, PROBLEM, Syntax};
+use crate::request::Request;
 use crate::subcommand::{Kind, Subcommand};
 use clap::ArgMatches;
 use clap::builder::ValueParser;
@@ -30,13 +30,13 @@ static ARGUMENTS: [Argument; 3] = [
     Argument {
         name: "TOUR | SOLUTION",
         help: "a TSPLIB tour file, or for a CVRP a CVRPLIB solution file, or - for standard input",
-        form: Form::Optional,
+        syntax: Syntax::Optional,
         values: ValueParser::String,
     },
     Argument {
         name: "html",
         help: "print an HTML page instead of an SVG picture",
-        form: Form::Flag,
+        syntax: Syntax::Flag,
         values: ValueParser::Bool,
     },
 ];
@@ -54,8 +54,8 @@ pub fn subcommand() -> Subcommand {
 }
 
 /// The request that these arguments make.
-pub fn asked<'a>(words: &ArgMatches<'a>) -> Option<Asked<'a>> {
-    Some(Asked::Plot {
+pub fn request<'a>(words: &ArgMatches<'a>) -> Option<Request<'a>> {
+    Some(Request::Plot {
         problem: words.get_str("PROBLEM")?,
         claim: words.get_str("TOUR | SOLUTION"),
         html: words.get_flag("html"),

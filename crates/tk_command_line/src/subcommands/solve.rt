@@ -1,7 +1,7 @@
 //! The arguments of `solve`.
 
-use crate::argument::{Argument, Form, JSON};
-use crate::asked::{Asked, Shown};
+use crate::argument::{Argument, JSON, Syntax};
+use crate::request::{DisplayOptions, Request};
 use crate::search_options::SearchOptions;
 use crate::subcommand::{Kind, Subcommand};
 use clap::ArgMatches;
@@ -32,90 +32,96 @@ Examples:
 const CONSTRUCTIONS: [&str; 2] = ["nearest", "savings"];
 
 /// The arguments of the subcommand.
-static ARGUMENTS: [Argument; 15] = [
+static ARGUMENTS: [Argument; 16] = [
     Argument {
         name: "PROBLEM | PARAMETERS",
         help: "a problem file, or a parameter file like LKH's; - for standard input",
-        form: Form::Required,
+        syntax: Syntax::Required,
         values: ValueParser::String,
     },
     Argument {
         name: "output",
         help: "write the best tour, or the routes of a CVRP, to FILE",
-        form: Form::File('o'),
+        syntax: Syntax::File('o'),
         values: ValueParser::String,
     },
     Argument {
         name: "trials",
         help: "trials per run, 1 to 1,000,000 [default: the number of cities; CVRP: 10 for each node]",
-        form: Form::Long("N"),
+        syntax: Syntax::Long("N"),
         values: ValueParser::Unsigned(1, 1_000_000),
     },
     Argument {
         name: "candidates",
         help: "length of the near lists, 1 to 100 [default: 5; CVRP: 12]",
-        form: Form::Long("N"),
+        syntax: Syntax::Long("N"),
         values: ValueParser::Unsigned(1, CANDIDATE_LIMIT as u64),
     },
     Argument {
         name: "runs",
         help: "number of runs, 1 to 10,000 [default: 10; CVRP: 1]",
-        form: Form::Long("N"),
+        syntax: Syntax::Long("N"),
         values: ValueParser::Unsigned(1, 10_000),
     },
     Argument {
         name: "seed",
         help: "seed of the random numbers [default: 1]",
-        form: Form::Long("N"),
+        syntax: Syntax::Long("N"),
         values: ValueParser::Unsigned(0, u32::MAX as u64),
     },
     Argument {
         name: "or-segment",
         help: "longest segment that an Or-opt move moves, 1 to 3 [default: 3]",
-        form: Form::Long("N"),
+        syntax: Syntax::Long("N"),
         values: ValueParser::Unsigned(1, 3),
     },
     Argument {
         name: "construction",
         help: "how to construct the starting tours (TSP only) [default: nearest]",
-        form: Form::Long("HOW"),
+        syntax: Syntax::Long("HOW"),
         values: ValueParser::Names(&CONSTRUCTIONS),
     },
     Argument {
         name: "final-sweep",
         help: "continue each trial until no city has an improving move",
-        form: Form::Flag,
+        syntax: Syntax::Flag,
         values: ValueParser::Bool,
     },
     Argument {
         name: "initial-tour",
         help: "start every run from this tour, or - for standard input (TSP only)",
-        form: Form::Long("TOUR"),
+        syntax: Syntax::Long("TOUR"),
         values: ValueParser::String,
     },
     Argument {
         name: "initial-solution",
         help: "start every run from these routes, or - for standard input (CVRP only)",
-        form: Form::Long("SOLUTION"),
+        syntax: Syntax::Long("SOLUTION"),
         values: ValueParser::String,
     },
     Argument {
         name: "vehicles",
         help: "exit with status 1 if the best solution has more routes than N (CVRP only)",
-        form: Form::Long("N"),
+        syntax: Syntax::Long("N"),
         values: ValueParser::Unsigned(1, ROUTE_LIMIT as u64),
     },
     Argument {
         name: "within-routes",
         help: "move no customers between routes, as with PARAMETERS (CVRP only)",
-        form: Form::Flag,
+        syntax: Syntax::Flag,
         values: ValueParser::Bool,
     },
     Argument {
         name: "progress",
         help: "write each run's line to standard error when the run ends",
-        form: Form::Flag,
+        syntax: Syntax::Flag,
         values: ValueParser::Bool,
+    },
+    Argument {
+        name: "log",
+        help: "append a JSON object to FILE for each improvement of a run",
+        syntax: Syntax::Long("FILE"),
+        values: ValueParser::String,
     },
     JSON,
 ];
@@ -133,7 +139,7 @@ pub fn subcommand() -> Subcommand {
 }
 
 /// The request that these arguments make.
-pub fn asked<'a>(words: &ArgMatches<'a>) -> Option<Asked<'a>> {
+pub fn request<'a>(words: &ArgMatches<'a>) -> Option<Request<'a>> {
     let options = SearchOptions {
         output: words.get_str("output"),
         initial_tour: words.get_str("initial-tour"),
@@ -148,11 +154,12 @@ pub fn asked<'a>(words: &ArgMatches<'a>) -> Option<Asked<'a>> {
         vehicles: words.get_one::<u32>("vehicles"),
         within_routes: words.get_flag("within-routes"),
     };
-    Some(Asked::Solve {
+    Some(Request::Solve {
         file: words.get_str("PROBLEM | PARAMETERS")?,
         options: options.are_given().then_some(options),
-        shown: Shown {
+        shown: DisplayOptions {
             progress: words.get_flag("progress"),
+            log: words.get_str("log"),
             json: words.get_flag("json"),
         },
     })

@@ -2,7 +2,7 @@
 use Rattle.std.proofs.Common.{ℕ, List, ◌++◌, reverse, refl, arith, inl, inr, length-append}
 use Rattle.std.proofs.lemmas.List.{length-reverse}
 use Rattle.tk_tour.specs.Tour.{SameCycle}
-use Rattle.tk_tour.proofs.Once.{occurrences-append, occurrences-reverse}
+use Rattle.tk_tour.proofs.DistinctCycles.{occurrences-append, occurrences-reverse}
 use Rattle.tk_distance.specs.Holding.{IsDistinct}
 use Rattle.tk_descent.specs.Offers.{Makes}
 use Rattle.tk_descent.specs.declared.offer.Offer.{Offer}

@@ -9,9 +9,9 @@ use Rattle.std.proofs.lemmas.Bool.{false_from_ne_true, both_ways, ne_eqb}
 use Rattle.tk_tour.specs.Tour.{IsRotation, SameCycle, next_city, prev_city, occurrences, place_of}
 use Rattle.tk_tour.proofs.Cycle.{IsRotation-append, IsRotation-trans, IsRotation-reverse, SameCycle-trans}
 use Rattle.tk_tour.proofs.Cycle.{SameCycle-append}
-use Rattle.tk_tour.proofs.Once.{HoldsOnce, occurrences-rotation, occurrences-reverse}
+use Rattle.tk_tour.proofs.DistinctCycles.{HoldsOnce, occurrences-rotation, occurrences-reverse}
 use Rattle.tk_tour.proofs.Tours.{occurrences-other, occurrences-same, occurrences-nil}
-use Rattle.tk_tour.proofs.Steps.{Neighbours-rotation}
+use Rattle.tk_tour.proofs.CycleNeighbours.{Neighbours-rotation}
 use Rattle.tk_descent.proofs.MovesOnTours.Paths.{last_from, Spans}
 use Rattle.tk_distance.specs.Holding.{holds, IsDistinct}
 use Rattle.tk_descent.proofs.Lists.{holds-append, holds-push, holds-push_same}

@@ -13,8 +13,8 @@ use Rattle.tk_tour.specs.Tour.{next_city, prev_city}
 use Rattle.tk_descent.specs.Offers.{offers_between, first_allowed, tests_until, Searched, is_taken, or_offers, segments}
 use Rattle.tk_descent.specs.Offers.{segment_count, all_segments}
 use Rattle.tk_descent.specs.Sharing.{segment_of, piece_offers}
-use Rattle.tk_descent.specs.declared.looks.sharing.Beside.{Beside}
-use Rattle.tk_descent.specs.declared.looks.sharing.Piece.{Piece}
+use Rattle.tk_descent.specs.declared.looks.sharing.CityWithNeighbours.{CityWithNeighbours}
+use Rattle.tk_descent.specs.declared.looks.sharing.RemovedSegment.{RemovedSegment}
 use Rattle.tk_descent.specs.declared.offer.Offer.TheVariants.{Two}
 use Rattle.tk_descent.specs.declared.offer.Segment.{Segment}
 use Rattle.tk_descent.specs.declared.offer.Offer.{Offer}
@@ -110,7 +110,8 @@ pub on_list : {may : Offer → Bool} (d : ℕ → ℕ → ℕ) (os qs : List Off
 on_list {may} d os qs r t u same h = subst (λ z. Searched d may z r t u) same h
 
 -- the offers of x with y, from the neighbours of both
-pub beside_offers : (C : List ℕ) (m n k : ℕ) (all : List Piece) (a b : Beside) (x y : ℕ) → k ≡ segment_count n m →
+pub beside_offers : (C : List ℕ) (m n k : ℕ) (all : List RemovedSegment) (a b : CityWithNeighbours) (x y : ℕ) → k ≡
+    segment_count n m →
     n ≡ length C → map segment_of all ≡ all_segments (next_city C) (prev_city C) a.city →
     a.city ≡ x → a.after ≡ next_city C x → a.before ≡ prev_city C x →
     b.city ≡ y → b.after ≡ next_city C y → b.before ≡ prev_city C y →
@@ -128,7 +129,8 @@ beside_offers C m n k all a b x y count size are h1 h2 h3 h4 h5 h6 =
     cc
 
 -- a search of these offers
-pub with_city : {may : Offer → Bool} (C : List ℕ) (m n k : ℕ) (all : List Piece) (a b : Beside) (x y : ℕ)
+pub with_city : {may : Offer → Bool} (C : List ℕ) (m n k : ℕ) (all : List RemovedSegment) (a b : CityWithNeighbours)
+    (x y : ℕ)
     (d : ℕ → ℕ → ℕ) (r : Option Found) (t u : ℕ) → k ≡ segment_count n m → n ≡ length C →
     map segment_of all ≡ all_segments (next_city C) (prev_city C) a.city →
     a.city ≡ x → a.after ≡ next_city C x → a.before ≡ prev_city C x →

@@ -3,21 +3,21 @@ ghost use Rattle.std.specs.Prelude.{◌≡◌, ◌≤◌, ◌<◌, [], ◌∷◌
 ghost use Rattle.tk_near.specs.Near.{near_of};
 ghost use Rattle.tk_descent.specs.Looks.{Looked};
 ghost use Rattle.tk_descent.specs.Offers.{covers, Searched, or_offer, offers_at, EndsIn, segment_count};
-ghost use Rattle.tk_descent.specs.Sharing.{IsBeside, IsPiece, piece_offers, two_margin, or_margin};
-ghost use Rattle.tk_descent.specs.Steps.{AreMeasured};
+ghost use Rattle.tk_descent.specs.Sharing.{IsCityWithNeighbours, IsRemovedSegment, piece_offers, two_margin, or_margin};
+ghost use Rattle.tk_descent.specs.EdgeCache.{AreMeasured};
 ghost use Rattle.tk_distance.specs.Cities.{IsCity};
 ghost use Rattle.tk_descent.specs.Machine.{IsOfferOn};
 ghost use Rattle.tk_descent.specs.WakeMachine.{HasNoOffer};
 ghost use Rattle.tk_descent.specs.declared.offer.Offer.TheVariants.{Two};
 ghost use Rattle.tk_descent.specs.Ruled.{Each, IsOnTour};
 
+use crate::edge_cache::CachedEdges;
 use crate::gains::Gains;
 use crate::looks::segments::segment_count;
-use crate::looks::sharing::{Beside, Piece, look_beside, pieces_of};
+use crate::looks::sharing::{CityWithNeighbours, RemovedSegment, look_beside, pieces_of};
 use crate::offer::{Found, Offer, Segment};
 use crate::on_tour::size;
 use crate::rule::{Everything, Rule};
-use crate::steps::Measured;
 use tk_distance::Metric;
 use tk_near::Near;
 use tk_tour::TourStore;
@@ -104,12 +104,12 @@ fn margin_of<M: Metric>(
     metric: &M,
     x: u32,
     y: u32,
-    piece: &Piece,
+    piece: &RemovedSegment,
     w: u32,
     across: i64,
     beside: i64,
 ) -> i64
-    requires piece { IsPiece (M.size_of metric.now) (M.distance metric.now) x piece.now }
+    requires piece { IsRemovedSegment (M.size_of metric.now) (M.distance metric.now) x piece.now }
     requires across { across ≡ pos (M.distance metric.now x y) }
     requires beside { beside ≡ pos (M.distance metric.now y w) }
     ensures { result ≡ or_margin (M.distance metric.now) x y piece.now.segment w }
@@ -126,14 +126,14 @@ fn try_piece<S: TourStore, M: Metric, R: Rule>(
     rule: &R,
     count: &mut u64,
     x: u32,
-    piece: &Piece,
-    y: &Beside,
+    piece: &RemovedSegment,
+    y: &CityWithNeighbours,
     across: i64,
 ) -> Option<Found>
     requires fits { R.Fits rule.now (S.cities tour.now) }
     requires on_tour { Each (IsOnTour (S.cities tour.now)) (piece_offers x y.now piece.now) }
-    requires piece { IsPiece (M.size_of metric.now) (M.distance metric.now) x piece.now }
-    requires beside { IsBeside (M.size_of metric.now) (M.distance metric.now) y.now }
+    requires piece { IsRemovedSegment (M.size_of metric.now) (M.distance metric.now) x piece.now }
+    requires beside { IsCityWithNeighbours (M.size_of metric.now) (M.distance metric.now) y.now }
     requires across { across ≡ pos (M.distance metric.now x y.now.city) }
     ensures { Searched (M.distance metric.now) (R.allowed rule.now (S.cities tour.now)) (piece_offers x y.now piece.now)
         result count.old count.new }
@@ -174,14 +174,14 @@ fn try_segments<S: TourStore, M: Metric, R: Rule>(
     rule: &R,
     count: &mut u64,
     x: u32,
-    pieces: &[Piece],
-    y: &Beside,
+    pieces: &[RemovedSegment],
+    y: &CityWithNeighbours,
     across: i64,
 ) -> Option<Found>
     requires fits { R.Fits rule.now (S.cities tour.now) }
     requires on_tour { Each (IsOnTour (S.cities tour.now)) (flat_map (piece_offers x y.now) pieces.now) }
-    requires pieces { All (IsPiece (M.size_of metric.now) (M.distance metric.now) x) pieces.now }
-    requires beside { IsBeside (M.size_of metric.now) (M.distance metric.now) y.now }
+    requires pieces { All (IsRemovedSegment (M.size_of metric.now) (M.distance metric.now) x) pieces.now }
+    requires beside { IsCityWithNeighbours (M.size_of metric.now) (M.distance metric.now) y.now }
     requires across { across ≡ pos (M.distance metric.now x y.now.city) }
     ensures { Searched (M.distance metric.now) (R.allowed rule.now (S.cities tour.now))
         (flat_map (piece_offers x y.now) pieces.now) result count.old count.new }
@@ -202,17 +202,17 @@ fn try_city<S: TourStore, M: Metric, R: Rule>(
     metric: &M,
     rule: &R,
     count: &mut u64,
-    x: &Beside,
-    pieces: &[Piece],
-    y: &Beside,
+    x: &CityWithNeighbours,
+    pieces: &[RemovedSegment],
+    y: &CityWithNeighbours,
 ) -> Option<Found>
     requires fits { R.Fits rule.now (S.cities tour.now) }
     requires on_tour { Each (IsOnTour (S.cities tour.now))
         (Two x.now.city x.now.after y.now.city y.now.after ∷ Two x.now.city x.now.before y.now.city y.now.before
         ∷ flat_map (piece_offers x.now.city y.now) pieces.now) }
-    requires from { IsBeside (M.size_of metric.now) (M.distance metric.now) x.now }
-    requires pieces { All (IsPiece (M.size_of metric.now) (M.distance metric.now) x.now.city) pieces.now }
-    requires beside { IsBeside (M.size_of metric.now) (M.distance metric.now) y.now }
+    requires from { IsCityWithNeighbours (M.size_of metric.now) (M.distance metric.now) x.now }
+    requires pieces { All (IsRemovedSegment (M.size_of metric.now) (M.distance metric.now) x.now.city) pieces.now }
+    requires beside { IsCityWithNeighbours (M.size_of metric.now) (M.distance metric.now) y.now }
     ensures { Searched (M.distance metric.now) (R.allowed rule.now (S.cities tour.now))
         (Two x.now.city x.now.after y.now.city y.now.after ∷ Two x.now.city x.now.before y.now.city y.now.before
         ∷ flat_map (piece_offers x.now.city y.now) pieces.now) result count.old count.new }
@@ -239,7 +239,7 @@ pub(crate) fn find_offer<S: TourStore, M: Metric, R: Rule>(
     tour: &S,
     metric: &M,
     rule: &R,
-    steps: &mut [Measured],
+    steps: &mut [CachedEdges],
     count: &mut u64,
     near: &Near,
     or_segment: u32,

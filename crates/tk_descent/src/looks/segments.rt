@@ -6,7 +6,7 @@ ghost use Rattle.tk_descent.specs.Offers.{IsSegmentIn, all_segments, covers, seg
 ghost use Rattle.tk_descent.specs.declared.offer.Offer.TheVariants.{Or};
 
 use crate::offer::{Offer, Segment};
-use crate::on_tour::around;
+use crate::on_tour::neighbourhood;
 use tk_tour::TourStore;
 
 impl Segment {
@@ -57,9 +57,9 @@ pub(crate) fn segments_of<S: TourStore>(tour: &S, x: u32) -> [Segment; 5]
     ensures value { result ≡ all_segments (next_city (S.cities tour.now)) (prev_city (S.cities tour.now)) x }
     ensures inside { All (IsSegmentIn (length (S.cities tour.now))) result }
 {
-    let around = around(tour, x);
-    let [after, after_2, after_3] = around.after;
-    let [before, before_2, before_3] = around.before;
+    let neighbourhood = neighbourhood(tour, x);
+    let [after, after_2, after_3] = neighbourhood.after;
+    let [before, before_2, before_3] = neighbourhood.before;
     [
         Segment {
             before,

@@ -3,19 +3,19 @@ ghost use Rattle.std.specs.Prelude.{◌≡◌, ◌+◌, All, length, map, pos};
 ghost use Rattle.tk_distance.specs.Cities.{IsCity};
 ghost use Rattle.tk_tour.specs.Tour.{next_city, prev_city};
 ghost use Rattle.tk_descent.specs.Offers.{IsSegmentIn, all_segments};
-ghost use Rattle.tk_descent.specs.Sharing.{IsBeside, IsPiece, segment_of};
-ghost use Rattle.tk_descent.specs.Steps.{AreMeasured};
+ghost use Rattle.tk_descent.specs.Sharing.{IsCityWithNeighbours, IsRemovedSegment, segment_of};
+ghost use Rattle.tk_descent.specs.EdgeCache.{AreMeasured};
 
+use crate::edge_cache::{CachedEdges, neighbour_distances, step};
 use crate::looks::segments::segments_of;
 use crate::offer::Segment;
-use crate::on_tour::beside;
-use crate::steps::{Measured, step, steps_beside};
+use crate::on_tour::neighbours;
 use tk_distance::Metric;
 use tk_tour::TourStore;
 
 /// A city with its neighbours on the tour, and the distances to them.
 #[derive(Clone, Copy)]
-pub(crate) struct Beside {
+pub(crate) struct CityWithNeighbours {
     pub city: u32,
     pub after: u32,
     pub before: u32,
@@ -25,7 +25,7 @@ pub(crate) struct Beside {
 
 /// A segment that begins at a city x, and the length that the tour loses if the segment is removed.
 #[derive(Clone, Copy)]
-pub(crate) struct Piece {
+pub(crate) struct RemovedSegment {
     pub segment: Segment,
     pub freed: i64,
 }
@@ -35,21 +35,21 @@ pub(crate) struct Piece {
 pub(crate) fn look_beside<S: TourStore, M: Metric>(
     tour: &S,
     metric: &M,
-    steps: &mut [Measured],
+    steps: &mut [CachedEdges],
     c: u32,
-) -> Beside
+) -> CityWithNeighbours
     requires size { M.size_of metric.now ≡ length (S.cities tour.now) }
     requires city { IsCity (length (S.cities tour.now)) c }
     requires known { AreMeasured (M.distance metric.now) steps.old }
     ensures city { result.city ≡ c }
     ensures after { result.after ≡ next_city (S.cities tour.now) c }
     ensures before { result.before ≡ prev_city (S.cities tour.now) c }
-    ensures shared { IsBeside (M.size_of metric.now) (M.distance metric.now) result }
+    ensures shared { IsCityWithNeighbours (M.size_of metric.now) (M.distance metric.now) result }
     ensures known { AreMeasured (M.distance metric.now) steps.new }
 {
-    let (after, before) = beside(tour, c);
-    let (to_after, to_before) = steps_beside(metric, steps, c, after, before);
-    Beside {
+    let (after, before) = neighbours(tour, c);
+    let (to_after, to_before) = neighbour_distances(metric, steps, c, after, before);
+    CityWithNeighbours {
         city: c,
         after,
         before,
@@ -60,15 +60,21 @@ pub(crate) fn look_beside<S: TourStore, M: Metric>(
 
 /// A segment from x, at the distances `begin` and `end` from the cities before and after it.
 #[inline]
-fn measure_piece<M: Metric>(metric: &M, x: u32, begin: i64, end: i64, segment: Segment) -> Piece
+fn measure_piece<M: Metric>(
+    metric: &M,
+    x: u32,
+    begin: i64,
+    end: i64,
+    segment: Segment,
+) -> RemovedSegment
     requires city { IsCity (M.size_of metric.now) x }
     requires segment { IsSegmentIn (M.size_of metric.now) segment }
     requires begin { begin ≡ pos (M.distance metric.now segment.before x) }
     requires end { end ≡ pos (M.distance metric.now segment.last segment.after) }
     ensures segment { result.segment ≡ segment }
-    ensures shared { IsPiece (M.size_of metric.now) (M.distance metric.now) x result }
+    ensures shared { IsRemovedSegment (M.size_of metric.now) (M.distance metric.now) x result }
 {
-    Piece {
+    RemovedSegment {
         segment,
         freed: begin + end - metric.dist(segment.before, segment.after),
     }
@@ -78,17 +84,17 @@ fn measure_piece<M: Metric>(metric: &M, x: u32, begin: i64, end: i64, segment: S
 #[inline]
 fn measure_longer<M: Metric>(
     metric: &M,
-    steps: &[Measured],
+    steps: &[CachedEdges],
     x: u32,
     begin: i64,
     segment: Segment,
-) -> Piece
+) -> RemovedSegment
     requires city { IsCity (M.size_of metric.now) x }
     requires segment { IsSegmentIn (M.size_of metric.now) segment }
     requires begin { begin ≡ pos (M.distance metric.now segment.before x) }
     requires known { AreMeasured (M.distance metric.now) steps.now }
     ensures segment { result.segment ≡ segment }
-    ensures shared { IsPiece (M.size_of metric.now) (M.distance metric.now) x result }
+    ensures shared { IsRemovedSegment (M.size_of metric.now) (M.distance metric.now) x result }
 {
     let end = step(metric, steps, segment.last, segment.after);
     measure_piece(metric, x, begin, end, segment)
@@ -99,17 +105,17 @@ fn measure_longer<M: Metric>(
 pub(crate) fn pieces_of<S: TourStore, M: Metric>(
     tour: &S,
     metric: &M,
-    steps: &[Measured],
-    x: &Beside,
-) -> [Piece; 5]
+    steps: &[CachedEdges],
+    x: &CityWithNeighbours,
+) -> [RemovedSegment; 5]
     requires size { M.size_of metric.now ≡ length (S.cities tour.now) }
     requires after { x.now.after ≡ next_city (S.cities tour.now) x.now.city }
     requires before { x.now.before ≡ prev_city (S.cities tour.now) x.now.city }
-    requires shared { IsBeside (M.size_of metric.now) (M.distance metric.now) x.now }
+    requires shared { IsCityWithNeighbours (M.size_of metric.now) (M.distance metric.now) x.now }
     requires known { AreMeasured (M.distance metric.now) steps.now }
     ensures value { map segment_of result
         ≡ all_segments (next_city (S.cities tour.now)) (prev_city (S.cities tour.now)) x.now.city }
-    ensures shared { All (IsPiece (M.size_of metric.now) (M.distance metric.now) x.now.city) result }
+    ensures shared { All (IsRemovedSegment (M.size_of metric.now) (M.distance metric.now) x.now.city) result }
 {
     let city = x.city;
     let [one, two, two_back, three, three_back] = segments_of(tour, city);

@@ -2,9 +2,9 @@
 use Rattle.std.proofs.Common.{◌^◌, ◌≤◌, length, length-append, arith}
 use Rattle.std.specs.Int.RustNames.{unsigned_abs}
 use Rattle.tk_writers.proofs.Pieces.NumberLengths.{length_decimal}
-use Rattle.tk_routes.specs.declared.claims.verdict.RouteVerdict.{RouteVerdict}
-use Rattle.tk_routes.specs.declared.claims.verdict.RouteVerdict.TheVariants.{Valid, BadCustomer, ServedTwice}
-use Rattle.tk_routes.specs.declared.claims.verdict.RouteVerdict.TheVariants.{OverCapacity, NotServed, WrongCost}
+use Rattle.tk_routes.specs.declared.checking.verdict.RouteVerdict.{RouteVerdict}
+use Rattle.tk_routes.specs.declared.checking.verdict.RouteVerdict.TheVariants.{Valid, BadCustomer, ServedTwice}
+use Rattle.tk_routes.specs.declared.checking.verdict.RouteVerdict.TheVariants.{OverCapacity, NotServed, WrongCost}
 use Rattle.tk_engines.specs.Lines.RouteLine.{route_verdict_line}
 
 -- a line is short

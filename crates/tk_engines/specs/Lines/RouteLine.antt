@@ -2,9 +2,9 @@
 use Rattle.std.specs.Prelude.{ℕ, List, ◌++◌, codes, decimal}
 use Rattle.std.specs.Int.RustNames.{unsigned_abs}
 use Rattle.tk_writers.specs.Written.{line}
-use Rattle.tk_routes.specs.declared.claims.verdict.RouteVerdict.{RouteVerdict}
-use Rattle.tk_routes.specs.declared.claims.verdict.RouteVerdict.TheVariants.{Valid, BadCustomer, ServedTwice}
-use Rattle.tk_routes.specs.declared.claims.verdict.RouteVerdict.TheVariants.{OverCapacity, NotServed, WrongCost}
+use Rattle.tk_routes.specs.declared.checking.verdict.RouteVerdict.{RouteVerdict}
+use Rattle.tk_routes.specs.declared.checking.verdict.RouteVerdict.TheVariants.{Valid, BadCustomer, ServedTwice}
+use Rattle.tk_routes.specs.declared.checking.verdict.RouteVerdict.TheVariants.{OverCapacity, NotServed, WrongCost}
 
 -- there is no fault: the number of routes that have a customer, and their cost
 abbrev pub valid_line : ℕ → ℕ → List ℕ

@@ -23,7 +23,7 @@ use crate::lines::tour_line::{length_of, write_tour_outcome};
 use crate::outcomes::tour::TourOutcome;
 use std::alloc::Global;
 use tk_lists::{SolText, read_solution, read_tour};
-use tk_picture::{Form, Picture, Subject, View, write_picture};
+use tk_picture::{OutputFormat, Picture, Subject, View, write_picture};
 use tk_problem::{Problem, Weights};
 use tk_problem_text::read_problem;
 use tk_routes::{Cvrp, RouteVerdict, check_routes};
@@ -85,7 +85,7 @@ fn draw<W: Sink>(
     problem: &Problem,
     view: &View<'_>,
     subject: Subject<'_>,
-    form: &Form<'_>,
+    form: &OutputFormat<'_>,
 ) -> Result<(), WriteFault>
     requires view { IsViewOf (problem_is problem.now) view.now }
     requires fits { Fits problem.now.n subject }
@@ -96,41 +96,41 @@ fn draw<W: Sink>(
     write_picture(out, &picture_of(problem, *view, subject), *form)
 }
 
-/// Draws a tour, or writes the line with its fault to `told`.
+/// Draws a tour, or writes the line with its fault to `reported`.
 fn show_tour<W: Sink, T: Sink>(
     out: &mut W,
-    told: &mut T,
+    reported: &mut T,
     problem: &Problem,
     view: &View<'_>,
     cities: &[u32],
     verdict: Verdict,
-    form: &Form<'_>,
+    form: &OutputFormat<'_>,
 ) -> Result<(), WriteFault>
     requires view { IsViewOf (problem_is problem.now) view.now }
     requires verdict { IsVerdict problem.now.n cities.now verdict }
     ensures text { WritesSome (IsTourOutput form.now (problem_is problem.now) cities.now verdict)
-        (WritesOutput W.Sink T.Sink out.old out.new told.old told.new result) }
-    ensures failed { OnErr result (IsBroken W.Sink out.new ⊎ IsBroken T.Sink told.new) }
+        (WritesOutput W.Sink T.Sink out.old out.new reported.old reported.new result) }
+    ensures failed { OnErr result (IsBroken W.Sink out.new ⊎ IsBroken T.Sink reported.new) }
 {
     match verdict {
         Verdict::Tour => {
             let length = length_of(problem, cities);
             draw(out, problem, view, Subject::Tour { cities, length }, form)
         }
-        _ => write_tour_outcome(told, &TourOutcome::of(problem, cities, verdict)),
+        _ => write_tour_outcome(reported, &TourOutcome::of(problem, cities, verdict)),
     }
 }
 
-/// Draws routes, or writes the line with their fault to `told`.
+/// Draws routes, or writes the line with their fault to `reported`.
 fn show_routes<W: Sink, T: Sink>(
     out: &mut W,
-    told: &mut T,
+    reported: &mut T,
     problem: &Problem,
     view: &View<'_>,
     cvrp: &Cvrp<'_>,
     solution: &SolText,
     verdict: RouteVerdict,
-    form: &Form<'_>,
+    form: &OutputFormat<'_>,
 ) -> Result<(), WriteFault>
     requires view { IsViewOf (problem_is problem.now) view.now }
     requires instance { IsInstanceOf problem.now (instance_of cvrp.now) }
@@ -138,8 +138,8 @@ fn show_routes<W: Sink, T: Sink>(
         solution.now.cost verdict }
     ensures text { WritesSome (IsRouteOutput form.now (problem_is problem.now) (instance_of cvrp.now)
         (map (λ r. r.items) solution.now.routes.items) verdict)
-        (WritesOutput W.Sink T.Sink out.old out.new told.old told.new result) }
-    ensures failed { OnErr result (IsBroken W.Sink out.new ⊎ IsBroken T.Sink told.new) }
+        (WritesOutput W.Sink T.Sink out.old out.new reported.old reported.new result) }
+    ensures failed { OnErr result (IsBroken W.Sink out.new ⊎ IsBroken T.Sink reported.new) }
 {
     match verdict {
         RouteVerdict::Valid { routes, cost } => {
@@ -151,24 +151,24 @@ fn show_routes<W: Sink, T: Sink>(
             };
             draw(out, problem, view, subject, form)
         }
-        _ => write_route_verdict(told, verdict),
+        _ => write_route_verdict(reported, verdict),
     }
 }
 
-/// Reads a tour, and draws it or writes the line with its fault to `told`.
+/// Reads a tour, and draws it or writes the line with its fault to `reported`.
 fn plot_tour<C: Source, W: Sink, T: Sink>(
     alloc: Global,
     problem: &Problem,
     view: &View<'_>,
     claim: &mut C,
-    form: &Form<'_>,
+    form: &OutputFormat<'_>,
     out: &mut W,
-    told: &mut T,
+    reported: &mut T,
 ) -> Result<Plotted, Fault>
     requires view { IsViewOf (problem_is problem.now) view.now }
     requires tsp { problem.now.routing ≡ None }
     ensures { PlotsClaim C.Source W.Sink T.Sink form.now (problem_is problem.now)
-        (claim.old, out.old, told.old) (claim.new, out.new, told.new) result }
+        (claim.old, out.old, reported.old) (claim.new, out.new, reported.new) result }
 {
     let tour = match read_tour(alloc, claim) {
         Ok(tour) => tour,
@@ -178,27 +178,27 @@ fn plot_tour<C: Source, W: Sink, T: Sink>(
     let Ok(verdict) = check(alloc, problem.n, cities) else {
         return Err(Fault::NoMemory);
     };
-    match show_tour(out, told, problem, view, cities, verdict, form) {
+    match show_tour(out, reported, problem, view, cities, verdict, form) {
         Ok(()) => Ok(Plotted::Tour(verdict)),
         Err(fault) => Err(Fault::Write(fault)),
     }
 }
 
-/// Reads routes, and draws them or writes the line with their fault to `told`.
+/// Reads routes, and draws them or writes the line with their fault to `reported`.
 fn plot_routes<C: Source, W: Sink, T: Sink>(
     alloc: Global,
     problem: &Problem,
     view: &View<'_>,
     cvrp: &Cvrp<'_>,
     claim: &mut C,
-    form: &Form<'_>,
+    form: &OutputFormat<'_>,
     out: &mut W,
-    told: &mut T,
+    reported: &mut T,
 ) -> Result<Plotted, Fault>
     requires view { IsViewOf (problem_is problem.now) view.now }
     requires instance { IsInstanceOf problem.now (instance_of cvrp.now) }
     ensures { PlotsClaim C.Source W.Sink T.Sink form.now (problem_is problem.now)
-        (claim.old, out.old, told.old) (claim.new, out.new, told.new) result }
+        (claim.old, out.old, reported.old) (claim.new, out.new, reported.new) result }
 {
     let solution = match read_solution(alloc, claim) {
         Ok(solution) => solution,
@@ -207,48 +207,48 @@ fn plot_routes<C: Source, W: Sink, T: Sink>(
     let Ok(verdict) = check_routes(alloc, cvrp, &solution) else {
         return Err(Fault::NoMemory);
     };
-    match show_routes(out, told, problem, view, cvrp, &solution, verdict, form) {
+    match show_routes(out, reported, problem, view, cvrp, &solution, verdict, form) {
         Ok(()) => Ok(Plotted::Routes(verdict)),
         Err(fault) => Err(Fault::Write(fault)),
     }
 }
 
-/// Reads a tour or routes of a problem, and draws them or writes the line with their fault to `told`.
+/// Reads a tour or routes of a problem, and draws them or writes the line with their fault to `reported`.
 fn plot_claim<C: Source, W: Sink, T: Sink>(
     alloc: Global,
     problem: &Problem,
     view: &View<'_>,
     claim: &mut C,
-    form: &Form<'_>,
+    form: &OutputFormat<'_>,
     out: &mut W,
-    told: &mut T,
+    reported: &mut T,
 ) -> Result<Plotted, Fault>
     requires view { IsViewOf (problem_is problem.now) view.now }
     ensures { PlotsClaim C.Source W.Sink T.Sink form.now (problem_is problem.now)
-        (claim.old, out.old, told.old) (claim.new, out.new, told.new) result }
+        (claim.old, out.old, reported.old) (claim.new, out.new, reported.new) result }
 {
     match Cvrp::of(problem) {
-        Some(cvrp) => plot_routes(alloc, problem, view, &cvrp, claim, form, out, told),
-        None => plot_tour(alloc, problem, view, claim, form, out, told),
+        Some(cvrp) => plot_routes(alloc, problem, view, &cvrp, claim, form, out, reported),
+        None => plot_tour(alloc, problem, view, claim, form, out, reported),
     }
 }
 
 /// Draws a problem, with the tour or the routes of another text if there is one, or writes the line with their fault to
-/// `told`.
+/// `reported`.
 fn plot_problem<C: Source, W: Sink, T: Sink>(
     alloc: Global,
     problem: &Problem,
     claim: &mut C,
     has_claim: bool,
-    form: &Form<'_>,
+    form: &OutputFormat<'_>,
     out: &mut W,
-    told: &mut T,
+    reported: &mut T,
 ) -> Result<Plotted, Fault>
     ensures ends { EndsByProblem (plot_task form.now has_claim) (HasRead (problem_is problem.now))
         (ReadsClaim has_claim C.Source claim.old claim.new)
-        (WritesOutput W.Sink T.Sink out.old out.new told.old told.new) result }
-    ensures quiet { IfErr result (UnlessWrite (AreUntouched W.Sink T.Sink out.old out.new told.old told.new)) }
-    ensures failed { IfErr result (AtWrite (IsBroken W.Sink out.new ⊎ IsBroken T.Sink told.new)) }
+        (WritesOutput W.Sink T.Sink out.old out.new reported.old reported.new) result }
+    ensures quiet { IfErr result (UnlessWrite (AreUntouched W.Sink T.Sink out.old out.new reported.old reported.new)) }
+    ensures failed { IfErr result (AtWrite (IsBroken W.Sink out.new ⊎ IsBroken T.Sink reported.new)) }
     ensures unread { IfErr result (BeforeSecond (IsUnread C.Source claim.old claim.new)) }
 {
     let Some(view) = view_of(problem) else {
@@ -260,11 +260,11 @@ fn plot_problem<C: Source, W: Sink, T: Sink>(
         };
         return Err(Fault::Write(fault));
     }
-    plot_claim(alloc, problem, &view, claim, form, out, told)
+    plot_claim(alloc, problem, &view, claim, form, out, reported)
 }
 
 /// Draws the cities of a problem and, if `has_claim` is true, the tour or the routes of another text. These are checked
-/// first: if they have a fault, `told` gets the line with it, and `out` gets nothing.
+/// first: if they have a fault, `reported` gets the line with it, and `out` gets nothing.
 ///
 /// The picture is written in a format: as an SVG, or within an HTML page. All texts are read before a byte is written.
 /// The other text is read as a solution if the problem has a routing, otherwise as a tour.
@@ -277,18 +277,18 @@ pub fn plot_engine<P: Source, C: Source, W: Sink, T: Sink>(
     problem: &mut P,
     claim: &mut C,
     has_claim: bool,
-    form: Form<'_>,
+    form: OutputFormat<'_>,
     out: &mut W,
-    told: &mut T,
+    reported: &mut T,
 ) -> Result<Plotted, Fault>
     ensures ends { Plots P.Source C.Source W.Sink T.Sink form.entry has_claim
-        (problem.old, claim.old, out.old, told.old) (problem.new, claim.new, out.new, told.new) result }
-    ensures quiet { IfErr result (UnlessWrite (AreUntouched W.Sink T.Sink out.old out.new told.old told.new)) }
-    ensures failed { IfErr result (AtWrite (IsBroken W.Sink out.new ⊎ IsBroken T.Sink told.new)) }
+        (problem.old, claim.old, out.old, reported.old) (problem.new, claim.new, out.new, reported.new) result }
+    ensures quiet { IfErr result (UnlessWrite (AreUntouched W.Sink T.Sink out.old out.new reported.old reported.new)) }
+    ensures failed { IfErr result (AtWrite (IsBroken W.Sink out.new ⊎ IsBroken T.Sink reported.new)) }
     ensures unread { IfErr result (BeforeSecond (IsUnread C.Source claim.old claim.new)) }
 {
     match read_problem(alloc, problem) {
-        Ok(problem) => plot_problem(alloc, &problem, claim, has_claim, &form, out, told),
+        Ok(problem) => plot_problem(alloc, &problem, claim, has_claim, &form, out, reported),
         Err(fault) => Err(Fault::Problem(fault)),
     }
 }

@@ -3,6 +3,7 @@ ghost use Rattle.std.specs.Prelude.{◌≡◌, IfOk, IfErr, OnOk, Ok, Err, Some,
 ghost use Rattle.std.specs.Prelude.{is_some};
 ghost use Rattle.tk_problem_text.specs.ProblemOf.{problem_is, weights_are};
 ghost use Rattle.tk_tour.specs.Tour.{IsTour};
+ghost use Rattle.tk_params.specs.SearchOf.{search_is};
 ghost use Rattle.tk_solve.specs.Starts.{task_over};
 ghost use Rattle.tk_engines.specs.ReadProblems.{read_distance};
 ghost use Rattle.tk_engines.specs.Solve.{IsInitial, IsInitialRefused, ReadsInitial, cities_in, tour_task, unfit_key};
@@ -10,7 +11,7 @@ ghost use Rattle.tk_engines.specs.Solve.{IsInitial, IsInitialRefused, ReadsIniti
 use crate::fault::Fault;
 use std::alloc::Global;
 use tk_lists::{TourText, read_tour};
-use tk_params::{Construction, Key, Params};
+use tk_params::{Construction, Key, Params, SearchSettings};
 use tk_problem::Problem;
 use tk_search::SearchRules;
 use tk_solve::{Start, TourOptions};
@@ -87,29 +88,29 @@ pub(crate) fn check_initial(
     }
 }
 
-/// The options of a search for a tour of the problem's cities, as the parameters specify them.
+/// The options of a search for a tour of the problem's cities.
 pub(crate) fn options_of<'a>(
-    params: &Params,
+    settings: &SearchSettings,
     problem: &Problem,
     initial: &'a Option<TourText>,
 ) -> TourOptions<'a>
     ensures { task_over problem.now.n (read_distance (weights_are problem.now.weights)) result
-        ≡ tour_task params.now (problem_is problem.now) (cities_in initial.now) }
+        ≡ tour_task (search_is settings.now) (problem_is problem.now) (cities_in initial.now) }
 {
-    let start = match (initial, params.construction()) {
+    let start = match (initial, settings.construction) {
         (Some(tour), _) => Start::Tour(&tour.cities),
         (None, Construction::Nearest) => Start::Nearest,
         (None, Construction::Savings) => Start::Savings,
     };
     TourOptions {
         start,
-        runs: params.runs(),
-        trials: params.max_trials().unwrap_or(problem.n),
-        seed: params.seed(),
-        candidates: params.max_candidates(),
+        runs: settings.runs,
+        trials: settings.max_trials.unwrap_or(problem.n),
+        seed: settings.seed,
+        candidates: settings.max_candidates,
         rules: SearchRules {
-            sweep: params.final_sweep(),
-            or_segment: params.or_segment(),
+            sweep: settings.final_sweep,
+            or_segment: settings.or_segment,
         },
     }
 }

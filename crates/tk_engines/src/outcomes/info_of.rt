@@ -38,13 +38,13 @@ fn area_of(places: Places<'_>) -> Area
     requires few { length (places_of places) ≤ CITY_LIMIT }
     ensures { IsArea (places_of places.entry) result }
 {
-    let frame = View::over(places).frame;
+    let extent = View::over(places).extent;
     Area {
         whole: are_whole(places),
-        left: frame.left,
-        right: frame.right,
-        bottom: frame.bottom,
-        top: frame.top,
+        left: extent.left,
+        right: extent.right,
+        bottom: extent.bottom,
+        top: extent.top,
     }
 }
 

@@ -11,7 +11,7 @@ const DECIMALS: &[u8] =
     2 0.000000001 -1000000000\n3 12.250 7.007\nEOF\n";
 
 /// The answer of the engine, and the text that it writes.
-fn told(alloc: Global, problem: &[u8]) -> (Result<(), Fault>, Vec<u8>) {
+fn reported(alloc: Global, problem: &[u8]) -> (Result<(), Fault>, Vec<u8>) {
     let mut out = ToWrite::new(Vec::new(alloc));
     let answer = info_engine(alloc, &mut FromRead::new(problem), &mut out);
     (answer, out.inner)
@@ -21,13 +21,13 @@ fn told(alloc: Global, problem: &[u8]) -> (Result<(), Fault>, Vec<u8>) {
 fn writes_what_was_read(rt: HostRuntime) {
     expect(
         &rt,
-        told(rt.alloc(), SQUARE),
+        reported(rt.alloc(), SQUARE),
         Ok(()),
         b"name: p\ntype: TSP\ndimension: 4\ndistances: EUC_2D\ncoordinates: whole\nx: 0 to 10\ny: 0 to 10\n",
     );
     expect(
         &rt,
-        told(rt.alloc(), BAKERY),
+        reported(rt.alloc(), BAKERY),
         Ok(()),
         b"name: Unnamed\ntype: CVRP\ndimension: 5\ndistances: EXPLICIT\ncoordinates: none\ncapacity: 4\ndepot: 1\n\
         total demand: 4\nvehicles: at least 1\n",
@@ -38,7 +38,7 @@ fn writes_what_was_read(rt: HostRuntime) {
 fn writes_decimals(rt: HostRuntime) {
     expect(
         &rt,
-        told(rt.alloc(), DECIMALS),
+        reported(rt.alloc(), DECIMALS),
         Ok(()),
         b"name: Unnamed\ntype: TSP\ndimension: 3\ndistances: ATT\ncoordinates: decimal\nx: -0.5 to 12.25\n\
         y: -1000000000 to 1000\n",
@@ -49,7 +49,7 @@ fn writes_decimals(rt: HostRuntime) {
 fn writes_nothing_on_a_faulty_text(rt: HostRuntime) {
     expect(
         &rt,
-        told(rt.alloc(), UNSUPPORTED),
+        reported(rt.alloc(), UNSUPPORTED),
         Err(Fault::Problem(AT_THE_TYPE)),
         b"",
     );

@@ -4,7 +4,7 @@ use crate::engines::given::{BAKERY, SQUARE, TOUR, UNSUPPORTED};
 use std::alloc::Global;
 use std::process::Abort;
 use tk_engines::{
-    Fault, Key, Params, SearchOutcome, Unwatched, read_params, search_outcome, solve_engine,
+    Fault, Key, NoObserver, Params, SearchOutcome, read_params, search_outcome, solve_engine,
     write_found,
 };
 use tk_text::{FromRead, Sink, ToWrite, WriteFault};
@@ -34,7 +34,7 @@ fn solve<F: Sink, W: Sink>(
         &mut initial,
         file,
         out,
-        &mut Unwatched,
+        &mut NoObserver,
     )
 }
 
@@ -134,7 +134,7 @@ fn bakery_outcome(rt: &impl Abort, alloc: Global) -> SearchOutcome {
     let params = params_of(rt, alloc, b"PROBLEM_FILE = p\n");
     let mut problem = FromRead::new(BAKERY);
     let mut initial = FromRead::new(b"".as_slice());
-    search_outcome(alloc, &params, &mut problem, &mut initial, &mut Unwatched).expect(
+    search_outcome(alloc, &params, &mut problem, &mut initial, &mut NoObserver).expect(
         rt,
         "an outcome",
     )

@@ -81,9 +81,13 @@ fn reads_each_key(rt: HostRuntime) {
         FINAL_SWEEP = yes\nOR_SEGMENT = 1\nCOMMENT = $\nCOMMENT\nEOF x\nFOO";
     let params = read(rt.alloc(), text).expect(&rt, "no fault");
     expect_files(&rt, &params, "= p", ["a b", "s", "t"]);
-    expect_numbers(&rt, &params, [10_000, 1_000_000, 4_294_967_295, 100, 1]);
-    expect_true(&rt, params.construction() == Construction::Savings);
-    expect_true(&rt, params.final_sweep());
+    expect_numbers(
+        &rt,
+        params.search(),
+        [10_000, 1_000_000, 4_294_967_295, 100, 1],
+    );
+    expect_true(&rt, params.search().construction == Construction::Savings);
+    expect_true(&rt, params.search().final_sweep);
     expect_true(&rt, params.ignored() == [Key::Optimum].as_slice());
 }
 

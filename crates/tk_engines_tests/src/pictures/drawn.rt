@@ -87,11 +87,11 @@ fn expect(
     given: &Given,
     answer: Result<Plotted, Fault>,
     drawn: &[u8],
-    told: &[u8],
+    reported: &[u8],
 ) {
     expect_true(rt, given.answer == answer);
     expect_bytes(rt, &given.drawn, drawn);
-    expect_bytes(rt, &given.told, told);
+    expect_bytes(rt, &given.reported, reported);
 }
 
 #[test]

@@ -1,6 +1,6 @@
 //! Inputs and outputs of the engine.
 use std::alloc::Global;
-use tk_engines::{Fault, Form, Plotted, plot_engine};
+use tk_engines::{Fault, OutputFormat, Plotted, plot_engine};
 use tk_text::{FromRead, ToWrite};
 
 /// The answer of the engine, the picture that it draws, and the line with a fault that it writes.
@@ -8,7 +8,7 @@ use tk_text::{FromRead, ToWrite};
 pub struct Given {
     pub answer: Result<Plotted, Fault>,
     pub drawn: Vec<u8>,
-    pub told: Vec<u8>,
+    pub reported: Vec<u8>,
 }
 
 /// The corners of a rectangle.
@@ -28,15 +28,20 @@ pub const EXPLICIT: &[u8] =
 
 /// Runs the engine on a problem and a tour or routes of it, for an SVG picture.
 pub fn plotted(alloc: Global, problem: &[u8], claim: Option<&[u8]>) -> Given {
-    plotted_as(alloc, problem, claim, Form::Svg)
+    plotted_as(alloc, problem, claim, OutputFormat::Svg)
 }
 
 /// Like `plotted`, but in this format.
-pub fn plotted_as(alloc: Global, problem: &[u8], claim: Option<&[u8]>, form: Form<'_>) -> Given {
+pub fn plotted_as(
+    alloc: Global,
+    problem: &[u8],
+    claim: Option<&[u8]>,
+    form: OutputFormat<'_>,
+) -> Given {
     let mut problem = FromRead::new(problem);
     let mut source = FromRead::new(claim.unwrap_or(b""));
     let mut drawn = ToWrite::new(Vec::new(alloc));
-    let mut told = ToWrite::new(Vec::new(alloc));
+    let mut reported = ToWrite::new(Vec::new(alloc));
     let answer = plot_engine(
         alloc,
         &mut problem,
@@ -44,11 +49,11 @@ pub fn plotted_as(alloc: Global, problem: &[u8], claim: Option<&[u8]>, form: For
         claim.is_some(),
         form,
         &mut drawn,
-        &mut told,
+        &mut reported,
     );
     Given {
         answer,
         drawn: drawn.inner,
-        told: told.inner,
+        reported: reported.inner,
     }
 }

@@ -2,7 +2,7 @@
 use crate::checks::expect_true;
 use crate::pictures::drawn::ROUTES;
 use crate::pictures::given::{SHOP, plotted_as};
-use tk_engines::{Form, Parts, Plotted, RouteVerdict};
+use tk_engines::{OutputFormat, Parts, Plotted, RouteVerdict};
 
 const PARTS: Parts<'static> = Parts {
     head: b"<style>\n",
@@ -55,7 +55,7 @@ run();
 #[test]
 fn draws_routes_in_a_page(rt: HostRuntime) {
     let solution = b"Route #1: 2\nRoute #2:\nRoute #3: 1\nCost 6\n";
-    let given = plotted_as(rt.alloc(), SHOP, Some(solution), Form::Page(PARTS));
+    let given = plotted_as(rt.alloc(), SHOP, Some(solution), OutputFormat::Page(PARTS));
     let valid = RouteVerdict::Valid { routes: 2, cost: 6 };
     expect_true(&rt, given.answer == Ok(Plotted::Routes(valid)));
     let page = given.drawn.as_slice();

@@ -65,10 +65,10 @@ fn two_routes(rt: HostRuntime) -> Result<(), Fail> {
         routes: 2,
         cost: 44,
     });
-    let told = verdict(rt.alloc(), TWO_SIDES, &[&[1, 2], &[3, 4]], 44)?;
-    expect_true(&rt, told == valid);
-    let told = verdict(rt.alloc(), TWO_SIDES, &[&[], &[2, 1], &[], &[3, 4]], 44)?;
-    expect_true(&rt, told == valid);
+    let reported = verdict(rt.alloc(), TWO_SIDES, &[&[1, 2], &[3, 4]], 44)?;
+    expect_true(&rt, reported == valid);
+    let reported = verdict(rt.alloc(), TWO_SIDES, &[&[], &[2, 1], &[], &[3, 4]], 44)?;
+    expect_true(&rt, reported == valid);
     Ok(())
 }
 

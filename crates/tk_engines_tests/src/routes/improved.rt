@@ -77,8 +77,8 @@ fn become_those(
     if !are(alloc, cvrp, &routes, saved, want.before)? {
         return Ok(false);
     }
-    let told = improve(alloc, cvrp, &mut routes, 5, 3)?;
-    Ok(told == want && are(alloc, cvrp, &routes, improved, want.after)?)
+    let reported = improve(alloc, cvrp, &mut routes, 5, 3)?;
+    Ok(reported == want && are(alloc, cvrp, &routes, improved, want.after)?)
 }
 
 /// Like `become_those`, for a problem text.
@@ -100,7 +100,7 @@ fn solves(
 /// each candidate. Routes that save nothing are not joined, whether or not there is room.
 #[test]
 fn two_sides_of_the_depot(rt: HostRuntime) -> Result<(), Fail> {
-    let told = report(44, 44, [0, 36, 0]);
+    let reported = report(44, 44, [0, 36, 0]);
     for problem in [TWO_SIDES, ROOM_FOR_ALL] {
         expect_true(
             &rt,
@@ -109,7 +109,7 @@ fn two_sides_of_the_depot(rt: HostRuntime) -> Result<(), Fail> {
                 problem,
                 &[&[1, 2], &[3, 4]],
                 &[&[1, 2], &[3, 4]],
-                told,
+                reported,
             )?,
         );
     }
@@ -119,10 +119,10 @@ fn two_sides_of_the_depot(rt: HostRuntime) -> Result<(), Fail> {
 /// Customer 2 is node 3.
 #[test]
 fn depot_that_is_not_the_first_node(rt: HostRuntime) -> Result<(), Fail> {
-    let told = report(22, 22, [0, 18, 0]);
+    let reported = report(22, 22, [0, 18, 0]);
     expect_true(
         &rt,
-        solves(rt.alloc(), DEPOT_BETWEEN, &[&[1, 2]], &[&[1, 2]], told)?,
+        solves(rt.alloc(), DEPOT_BETWEEN, &[&[1, 2]], &[&[1, 2]], reported)?,
     );
     Ok(())
 }
@@ -131,10 +131,16 @@ fn depot_that_is_not_the_first_node(rt: HostRuntime) -> Result<(), Fail> {
 /// tests each follow.
 #[test]
 fn one_move_of_seven(rt: HostRuntime) -> Result<(), Fail> {
-    let told = report(60, 53, [1, 134, 1]);
+    let reported = report(60, 53, [1, 134, 1]);
     expect_true(
         &rt,
-        solves(rt.alloc(), LISTED, &[&[3, 1, 2, 4]], &[&[3, 2, 1, 4]], told)?,
+        solves(
+            rt.alloc(),
+            LISTED,
+            &[&[3, 1, 2, 4]],
+            &[&[3, 2, 1, 4]],
+            reported,
+        )?,
     );
     Ok(())
 }
@@ -143,7 +149,7 @@ fn one_move_of_seven(rt: HostRuntime) -> Result<(), Fail> {
 /// customer. A route of one customer takes four tests.
 #[test]
 fn equal_savings(rt: HostRuntime) -> Result<(), Fail> {
-    let told = report(50, 50, [0, 22, 0]);
+    let reported = report(50, 50, [0, 22, 0]);
     expect_true(
         &rt,
         solves(
@@ -151,7 +157,7 @@ fn equal_savings(rt: HostRuntime) -> Result<(), Fail> {
             EQUAL_PAIRS,
             &[&[1, 2], &[3]],
             &[&[1, 2], &[3]],
-            told,
+            reported,
         )?,
     );
     expect_true(
@@ -161,7 +167,7 @@ fn equal_savings(rt: HostRuntime) -> Result<(), Fail> {
             EQUAL_WITH_THE_LAST,
             &[&[1, 3], &[2]],
             &[&[1, 3], &[2]],
-            told,
+            reported,
         )?,
     );
     Ok(())

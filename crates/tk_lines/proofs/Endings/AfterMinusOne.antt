@@ -10,9 +10,9 @@ use Rattle.tk_words.specs.Lex.{Token, integer, tokens, lines, is_blank, is_lette
 use Rattle.tk_lines.specs.Pieces.{Piece, Clean, Format, last_line, cut, judge, decided_by}
 use Rattle.tk_lines.specs.Reader.FromMiddle.{prepend, from_line, in_section, goes, new_pieces}
 use Rattle.tk_words.specs.MinusOne.{is_minus_one, one_more, begins_minus_one}
-use Rattle.tk_lines.specs.Reader.Forms.{whole, Closed, EndsWithMinusOne, a_section}
+use Rattle.tk_lines.specs.Reader.Handlers.{whole, Closed, EndsWithMinusOne, a_section}
 use Rattle.tk_lines.specs.Reader.Places.{Next, Within, anything, this, a_gap, DecidesIf, AtClose, AtAfter}
-use Rattle.tk_words.proofs.Bools.{and_false}
+use Rattle.tk_words.proofs.BoolLaws.{and_false}
 use Rattle.tk_lines.proofs.Sections.MiddleOfSection.{run_head}
 use Rattle.tk_lines.proofs.Sections.SectionEnds.{first_line, in_section-closed, last_line-append, alone_clean}
 use Rattle.tk_lines.proofs.Sections.SectionEnds.{alone_trailing, alone_extent}

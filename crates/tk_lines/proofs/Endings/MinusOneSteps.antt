@@ -8,7 +8,7 @@ use Rattle.tk_words.specs.Lex.{LF, Token, tokens, lines, is_blank, is_letter, Is
 use Rattle.tk_lines.specs.Pieces.{Piece, Clean, Format, last_line}
 use Rattle.tk_lines.specs.Reader.FromMiddle.{prepend, in_section}
 use Rattle.tk_words.specs.MinusOne.{one_more}
-use Rattle.tk_lines.specs.Reader.Forms.{whole, EndsWithMinusOne, a_section}
+use Rattle.tk_lines.specs.Reader.Handlers.{whole, EndsWithMinusOne, a_section}
 use Rattle.tk_lines.specs.Reader.Places.{Next, Within, anything, this, a_gap, DecidesIf, AtLine, AtToken, AtAfter}
 use Rattle.tk_lines.specs.Reader.Places.{IsLastLine}
 use Rattle.tk_lines.proofs.Sections.MiddleOfSection.{in_section-byte, in_section-next}
@@ -17,8 +17,8 @@ use Rattle.tk_lines.proofs.Sections.SectionEnds.{alone_trailing, alone_extent}
 use Rattle.tk_lines.proofs.Sections.SectionBytes.{in_section-drop, in_section-another, first_token}
 use Rattle.tk_lines.proofs.LineSteps.{says_byte}
 use Rattle.tk_lines.proofs.Sections.ListTokens.{no_minus_one}
-use Rattle.tk_lines.proofs.SamePlaces.{after_told}
-use Rattle.tk_lines.proofs.Lines.{blank_letter, differs}
+use Rattle.tk_lines.proofs.SameStates.{after_reported}
+use Rattle.tk_lines.proofs.KnownWordLines.{blank_letter, differs}
 use Rattle.tk_lines.proofs.Sections.SectionSteps.{same_now}
 use Rattle.tk_words.proofs.NumberLaws.MinusOne.{other_integer}
 
@@ -35,14 +35,14 @@ module _ {V S : Type 0} (f : Format V) (H : S → List Piece → Type 0) (form :
   pub after_LF : (o : Bool) → AtAfter f H (this LF) form line o [] bs →
       AtAfter f H anything form (line + 1) false [] (bs ++ LF ∷ [])
   after_LF o a =
-      after_told a (earlier o (last_line a.first a.toks) a.last)
+      after_reported a (earlier o (last_line a.first a.toks) a.last)
       (says_byte f LF bs _ _ a.same (λ e more. in_section-next f a.before a.word a.first a.toks e line more
       ∙ ap (λ (n : ℕ). in_section f a.before a.word a.first a.toks [] e n more) (omega arith)))
 
   pub after_blank : (o : Bool) → eqb b LF ≡ false → is_blank b ≡ true → AtAfter f H (this b) form line o [] bs →
       AtAfter f H anything form line o [] (bs ++ b ∷ [])
   after_blank o other blank a =
-      after_told a a.last
+      after_reported a a.last
       (says_byte f b bs _ _ a.same (λ e more. in_section-byte f a.before a.word a.first a.toks [] e line b more other
       ∙ in_section-drop f a.before a.word a.first a.toks e line more b blank))
 
@@ -50,7 +50,7 @@ module _ {V S : Type 0} (f : Format V) (H : S → List Piece → Type 0) (form :
   pub after_byte : (o : Bool) (pre : List ℕ) → eqb b LF ≡ false → AtAfter f H (this b) form line o pre bs →
       AtAfter f H anything form line o (pre ++ b ∷ []) (bs ++ b ∷ [])
   after_byte o pre other a =
-      after_told a a.last
+      after_reported a a.last
       (says_byte f b bs _ _ a.same
       (λ e more. in_section-byte f a.before a.word a.first a.toks pre e line b more other))
 

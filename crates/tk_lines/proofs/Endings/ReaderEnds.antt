@@ -6,22 +6,22 @@ use Rattle.std.proofs.lemmas.List.{append-nil}
 use Rattle.tk_words.specs.declared.keyword.Keyword.{Keyword}
 use Rattle.tk_words.specs.declared.fault.TextKind.{TextKind}
 use Rattle.tk_words.specs.declared.fault.TextFault.{TextFault}
-use Rattle.tk_lines.specs.declared.scan.Scan.{Scan}
+use Rattle.tk_lines.specs.declared.value_scanner.ValueScanner.{ValueScanner}
 use Rattle.tk_lines.specs.declared.reader.PieceReader.{PieceReader}
-use Rattle.tk_lines.specs.declared.place.Place.{Place}
-use Rattle.tk_lines.specs.declared.place.Place.TheVariants as places
+use Rattle.tk_lines.specs.declared.line_state.LineState.{LineState}
+use Rattle.tk_lines.specs.declared.line_state.LineState.TheVariants as places
 use Rattle.tk_words.specs.Lex.{Line, Token, lines, is_word_byte}
 use Rattle.tk_lines.specs.Pieces.{Piece, Clean, Early, Fault, Format, cut, judge, end_piece, stopped, ended, decided_by}
 use Rattle.tk_lines.specs.Reader.FromMiddle.{from_line}
 use Rattle.tk_words.specs.Texts.{cause_of}
-use Rattle.tk_lines.specs.Reader.Forms.{Promise, a_header, a_section}
+use Rattle.tk_lines.specs.Reader.Handlers.{Promise, a_header, a_section}
 use Rattle.tk_lines.specs.Reader.Places.{Next, Within, anything, no_word, a_gap, a_line_end, at_end, DecidesIf, AtLine}
 use Rattle.tk_lines.specs.Reader.Places.{AtTail}
 use Rattle.tk_lines.specs.Reader.Places.{AtValue, AtBegin, AtToken, AtClose, AtAfter, AtPlace, HeaderTaken, AtEnd, Fed}
 use Rattle.tk_lines.specs.Reader.Steps.{EndsPlace, IsSettled, IsAnswered, IsFaultWith, Waits}
-use Rattle.tk_words.proofs.Told.{told_of}
+use Rattle.tk_words.proofs.ReportedFaults.{reported_of}
 use Rattle.tk_lines.proofs.MiddleOfLine.{prepend-nil}
-use Rattle.tk_lines.proofs.Lines.{word_ends_behind, from_line-last}
+use Rattle.tk_lines.proofs.KnownWordLines.{word_ends_behind, from_line-last}
 use Rattle.tk_lines.proofs.Sections.SectionEnds.{First, alone_clean, alone_extent}
 use Rattle.tk_lines.proofs.Sections.SectionBytes.{from_line-tokens, first_same, plain_after, plain}
 use Rattle.tk_lines.proofs.Endings.TextEnds.{at_none, from_line-end, in_section-end, in_section-shut, open_start}
@@ -45,7 +45,7 @@ pub end_in_line_end : Within at_end a_line_end
 end_in_line_end = end_within a_line_end (λ e n. n)
 
 -- the end of the bytes ends what is open at a place
-pub end_closes : (place : Place) → EndsPlace at_end place
+pub end_closes : (place : LineState) → EndsPlace at_end place
 end_closes places.Word = end_in_no_word
 end_closes places.Token = end_in_gap
 end_closes (places.MinusOne o) = end_in_gap
@@ -60,9 +60,9 @@ module _ {V : Type 0} (f : Format V) (bs : List ℕ) where
   pub decides_ended : (a : Result V TextFault) → DecidesIf f at_end bs a → IsAnswered f bs a
   decides_ended a h = ended_by (Some a) (h true [] refl)
 
-  pub told_ended : (r : TextFault) → IsFaultWith (DecidesIf f at_end bs) r → IsFaultWith (IsAnswered f bs) r
-  told_ended r h =
-      told_of ⊥ (λ e. DecidesIf f at_end bs (Err e)) (λ e. IsAnswered f bs (Err e)) r (cause_of r.kind)
+  pub reported_ended : (r : TextFault) → IsFaultWith (DecidesIf f at_end bs) r → IsFaultWith (IsAnswered f bs) r
+  reported_ended r h =
+      reported_of ⊥ (λ e. DecidesIf f at_end bs (Err e)) (λ e. IsAnswered f bs (Err e)) r (cause_of r.kind)
       (decides_ended (Err r)) h
 
 -- ---- where nothing is open
@@ -133,8 +133,8 @@ module _ {V S : Type 0} (f : Format V) (H : S → List Piece → Type 0)
 
 -- no value, no section and nothing else is open
 pub nothing_open : {V S : Type 0} (f : Format V) (H : S → List Piece → Type 0)
-    (W : S → List Piece → Keyword → ℕ → List Token → Type 0) (form : S) (line : ℕ) (held : List ℕ) (scan : Scan)
-    (bs : List ℕ) (place : Place) → IsSettled place → ((word : Keyword) → place ≡ places.Value word → ⊥) →
+    (W : S → List Piece → Keyword → ℕ → List Token → Type 0) (form : S) (line : ℕ) (held : List ℕ) (scan : ValueScanner)
+    (bs : List ℕ) (place : LineState) → IsSettled place → ((word : Keyword) → place ≡ places.Value word → ⊥) →
     (place ≡ places.Begin → ⊥) → (place ≡ places.Gap → ⊥) → AtPlace f H W at_end form line held scan bs place →
     AtEnd f H form line bs
 nothing_open f H W form line held scan bs places.Start settled v b g at = end_line f H W form line bs at
@@ -148,7 +148,7 @@ nothing_open f H W form line held scan bs _ settled v b g at = absurd settled
 -- ---- where more may follow, nothing is decided
 
 module _ {V S : Type 0} (f : Format V) (H : S → List Piece → Type 0)
-    (W : S → List Piece → Keyword → ℕ → List Token → Type 0) (form : S) (line : ℕ) (held : List ℕ) (scan : Scan)
+    (W : S → List Piece → Keyword → ℕ → List Token → Type 0) (form : S) (line : ℕ) (held : List ℕ) (scan : ValueScanner)
     (bs : List ℕ) where
   open_value : (word : Keyword) → AtValue f H anything form line held word scan bs → decided_by f false bs ≡ None
   open_value word a = by_tail a.tail a.at a.short
@@ -176,7 +176,7 @@ module _ {V S : Type 0} (f : Format V) (H : S → List Piece → Type 0)
       a.section [] k refl refl (plain_after a.tail k.bytes a.blank (rw none tt))
       ∙ in_section-end f a.before false line a.word line [] a.goes.ends ∙ rw (a.goes.early line) refl)
 
-  pub open_place : (p : Place) → AtPlace f H W anything form line held scan bs p → decided_by f false bs ≡ None
+  pub open_place : (p : LineState) → AtPlace f H W anything form line held scan bs p → decided_by f false bs ≡ None
   open_place places.Start a = open_start f form line bs H a
   open_place places.Word a = open_word f form line bs H held a.0 a.1
   open_place (places.Value word) a = open_value word a

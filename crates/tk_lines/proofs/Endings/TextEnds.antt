@@ -11,13 +11,13 @@ use Rattle.tk_words.specs.Lex.{Token, lines, tokens_of, onto_token, is_word_byte
 use Rattle.tk_words.specs.Words.{keyword_of, role}
 use Rattle.tk_lines.specs.Pieces.{Piece, Clean, Early, Format, last_line, cut, judge, stopped, ended, decided_by}
 use Rattle.tk_lines.specs.Reader.FromMiddle.{from_line, in_section, goes, new_pieces}
-use Rattle.tk_lines.specs.Reader.Forms.{Goes, a_section}
+use Rattle.tk_lines.specs.Reader.Handlers.{Goes, a_section}
 use Rattle.tk_lines.specs.Reader.Places.{anything, IsWord, AtLine, AtToken, AtClose, AtAfter}
-use Rattle.tk_words.proofs.Bools.{and_false}
+use Rattle.tk_words.proofs.BoolLaws.{and_false}
 use Rattle.tk_lines.proofs.Sections.MiddleOfSection.{tokens_of-none, tokens_of-more, tokens_of-end, run_head}
 use Rattle.tk_lines.proofs.Sections.SectionEnds.{First, alone_clean, alone_extent}
 use Rattle.tk_lines.proofs.Headers.ByteRuns.{front-whole}
-use Rattle.tk_lines.proofs.Lines.{from_line-word, word_ends_behind, after_line, new_at, blank_letter}
+use Rattle.tk_lines.proofs.KnownWordLines.{from_line-word, word_ends_behind, after_line, new_at, blank_letter}
 use Rattle.tk_lines.proofs.Sections.SectionBytes.{first_same}
 
 pub get_end : (xs : List Token) (d : Token) → get_or xs (length xs) d ≡ d

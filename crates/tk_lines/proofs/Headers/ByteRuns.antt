@@ -3,9 +3,9 @@ use Rattle.std.proofs.Common.{◌≡◌, ℕ, zero, suc, ◌<◌, ◌≤◌, Boo
 use Rattle.std.proofs.Common.{length, take, refl, sym, ap, ◌∙◌, append_assoc, arith}
 use Rattle.std.proofs.lemmas.List.{append-nil, length-append}
 use Rattle.std.proofs.Math.Seq.{take-nil}
-use Rattle.tk_words.proofs.Bools.{and_false}
+use Rattle.tk_words.proofs.BoolLaws.{and_false}
 use Rattle.tk_words.specs.Lex.{is_blank, is_empty, front, behind, after_word, without_colon_before, trim_end}
-use Rattle.tk_lines.specs.Reader.Scan.{IsEmpty, Settled}
+use Rattle.tk_lines.specs.Reader.ValueScanner.{IsEmpty, Settled}
 
 behind-all_step : (p : ℕ → Bool) (x : ℕ) (xs ys : List ℕ) (t : Bool) →
     (behind p xs ≡ [] → behind p (xs ++ ys) ≡ behind p ys) → cond t (behind p xs) (x ∷ xs) ≡ [] →

@@ -2,11 +2,11 @@
 use Rattle.std.proofs.Common.{◌≡◌, ℕ, zero, suc, ◌+◌, ◌<◌, ◌≤◌, ◌&&◌, Bool, true, false, eqb, List, [], ◌∷◌, ◌++◌}
 use Rattle.std.proofs.Common.{length, take, min, refl, sym, ap, ◌∙◌, arith}
 use Rattle.std.proofs.lemmas.List.{length-append, length-take, append-nil, take-take}
-use Rattle.tk_lines.specs.declared.scan.Phase.{Phase}
-use Rattle.tk_lines.specs.declared.scan.Phase.TheVariants as phases
-use Rattle.tk_lines.specs.declared.scan.Scan.{Scan}
+use Rattle.tk_lines.specs.declared.value_scanner.Phase.{Phase}
+use Rattle.tk_lines.specs.declared.value_scanner.Phase.TheVariants as phases
+use Rattle.tk_lines.specs.declared.value_scanner.ValueScanner.{ValueScanner}
 use Rattle.tk_words.specs.Lex.{is_blank, is_empty, front, behind, after_word, trim, trim_end}
-use Rattle.tk_lines.specs.Reader.Scan.{IsEmpty, Settled, Scans, InPhase}
+use Rattle.tk_lines.specs.Reader.ValueScanner.{IsEmpty, Settled, Scans, InPhase}
 use Rattle.tk_lines.specs.HeaderValue.{body, first_word, not_blank}
 use Rattle.tk_lines.proofs.Headers.ByteRuns.{behind-all, front-all, front-whole, behind-on, front-on, trim_end-blank}
 use Rattle.tk_lines.proofs.Headers.ByteRuns.{trim_end-solid, take-room, take-full, settled_more, after_colon}
@@ -20,7 +20,7 @@ take-twice zero xs ys = refl
 take-twice (suc n) [] ys = refl
 take-twice (suc n) (x ∷ xs) ys = ap (λ (r : List ℕ). x ∷ r) (take-twice n xs ys)
 
-module _ (s : Scan) (v : List ℕ) (b : ℕ) (h : Scans s v) where
+module _ (s : ValueScanner) (v : List ℕ) (b : ℕ) (h : Scans s v) where
   abbrev pub kept : List ℕ
   kept = take 1024 (s.text ++ b ∷ [])
 
@@ -209,20 +209,21 @@ trimmed_short (x ∷ xs) = by_end (is_blank x && is_empty (trim_end xs)) refl (t
     by_end false e before = rw e (omega (arith, before))
 
 -- the kept bytes of a value hold all of it that is not too long
-pub name_kept : (s : Scan) (v : List ℕ) → Scans s v → s.trimmed ≤ length s.text →
+pub name_kept : (s : ValueScanner) (v : List ℕ) → Scans s v → s.trimmed ≤ length s.text →
     take s.trimmed s.text ≡ trim (after_word v)
 name_kept s v h fits =
     let within : s.trimmed ≤ 1024 = omega (arith, fits, ap length h.text, length-take 1024 (body v)) in
     ap (λ (t : List ℕ). take s.trimmed t) h.text ∙ take-take s.trimmed 1024 (body v) within
     ∙ ap (λ (k : ℕ). take k (body v)) h.trimmed ∙ take_trimmed (body v)
 
-pub name_long : (s : Scan) (v : List ℕ) → Scans s v → length s.text < s.trimmed → 1024 < length (trim (after_word v))
+pub name_long : (s : ValueScanner) (v : List ℕ) → Scans s v → length s.text < s.trimmed → 1024 < length
+    (trim (after_word v))
 name_long s v h past =
     let kept : length s.text ≡ min 1024 (length (body v)) = ap length h.text ∙ length-take 1024 (body v) in
     let short : s.trimmed ≤ length (body v) = omega (arith, h.trimmed, trimmed_short (body v)) in
     omega (arith, kept, short, past, h.trimmed)
 
-pub name_room : (s : Scan) (v : List ℕ) → Scans s v → length (take s.trimmed s.text) ≤ 1024
+pub name_room : (s : ValueScanner) (v : List ℕ) → Scans s v → length (take s.trimmed s.text) ≤ 1024
 name_room s v h =
     let kept : length s.text ≡ min 1024 (length (body v)) = ap length h.text ∙ length-take 1024 (body v) in
     omega (arith, kept, length-take s.trimmed s.text)

@@ -5,8 +5,8 @@ use Rattle.std.specs.Char.{to_ascii_uppercase}
 use Rattle.std.proofs.lemmas.List.{take_all, length-take-le}
 use Rattle.std.proofs.lemmas.Bool.{leb-true, leb-false, le-leb}
 use Rattle.tk_words.specs.declared.fault.TextKind.TheVariants as kinds
-use Rattle.tk_lines.specs.declared.scan.Scan.{Scan}
-use Rattle.tk_lines.specs.Reader.Scan.{Scans}
+use Rattle.tk_lines.specs.declared.value_scanner.ValueScanner.{ValueScanner}
+use Rattle.tk_lines.specs.Reader.ValueScanner.{Scans}
 use Rattle.tk_lines.specs.HeaderValue.{first_word}
 use Rattle.tk_words.specs.Lex.{integer}
 use Rattle.tk_words.specs.Words.{spells}
@@ -31,7 +31,7 @@ integer-take w = by_length (leb (length w) 64) refl
         integer_long (take 64 w) (omega (arith, length-take-le 64 w (omega (arith, long))))
         ∙ sym (integer_long w (omega (arith, long)))
 
-module _ (s : Scan) (v : List ℕ) (scans : Scans s v) where
+module _ (s : ValueScanner) (v : List ℕ) (scans : Scans s v) where
   pub value_integer : (bs : List ℕ) (o : Option ℤ) → o ≡ integer bs → bs ≡ s.first → integer (first_word v) ≡ o
   value_integer bs o is held = sym (is ∙ ap integer (held ∙ scans.first) ∙ integer-take (first_word v))
 

@@ -5,8 +5,8 @@ use Rattle.std.proofs.lemmas.List.{append-nil}
 use Rattle.tk_words.specs.declared.keyword.Keyword.{Keyword}
 use Rattle.tk_words.specs.Words.{same_word}
 use Rattle.tk_lines.specs.Pieces.{Piece, Header, Section, has, tokens_in}
-use Rattle.tk_lines.specs.Reader.Forms.{a_header}
-use Rattle.tk_words.proofs.Bools.{or_true}
+use Rattle.tk_lines.specs.Reader.Handlers.{a_header}
+use Rattle.tk_words.proofs.BoolLaws.{or_true}
 
 pub has-append : (w : Keyword) (xs ys : List Piece) → has w (xs ++ ys) ≡ (has w xs || has w ys)
 has-append w [] ys = refl

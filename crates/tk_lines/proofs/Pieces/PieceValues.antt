@@ -6,7 +6,7 @@ use Rattle.tk_words.specs.declared.keyword.Keyword.{Keyword}
 use Rattle.tk_words.specs.Lex.{Token}
 use Rattle.tk_words.specs.Words.{same_word}
 use Rattle.tk_lines.specs.Pieces.{Piece, Header, Section, After, has, value_of, tokens_in}
-use Rattle.tk_lines.specs.Reader.Forms.{a_header, a_section}
+use Rattle.tk_lines.specs.Reader.Handlers.{a_header, a_section}
 use Rattle.tk_lines.proofs.Pieces.PieceLookups.{has-append, either_false, tokens_in-kept}
 
 pub has-header : (w word : Keyword) (ps : List Piece) (v : List ℕ) (n : ℕ) →

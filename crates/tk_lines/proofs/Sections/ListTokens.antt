@@ -5,7 +5,7 @@ use Rattle.tk_words.specs.Lex.{Token, integer}
 use Rattle.tk_words.specs.Words.{keyword_of}
 use Rattle.tk_words.specs.MinusOne.{is_ending}
 use Rattle.tk_words.specs.Entry.{is_eof, without_colon}
-use Rattle.tk_words.proofs.Bools.{and_false}
+use Rattle.tk_words.proofs.BoolLaws.{and_false}
 use Rattle.tk_words.proofs.NoWord.{keyword_of-long}
 use Rattle.tk_words.proofs.NumberLaws.MinusOne.{integer_long}
 

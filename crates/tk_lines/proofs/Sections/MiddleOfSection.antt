@@ -9,7 +9,7 @@ use Rattle.tk_words.specs.Lex.{is_empty, behind, IsUnbroken}
 use Rattle.tk_lines.specs.Pieces.{Piece, Extents, covered, cut, Format}
 use Rattle.tk_lines.specs.Reader.FromMiddle.{in_section, goes, new_pieces, end_of}
 use Rattle.tk_lines.proofs.MiddleOfLine.{prepend-onto, prepend-nil, lines-byte, lines-LF, lines_cons, end_token-bytes}
-use Rattle.tk_words.proofs.Bools.{or_true}
+use Rattle.tk_words.proofs.BoolLaws.{or_true}
 
 pub run_head : (b : ℕ) (bs : List ℕ) → IsUnbroken (b ∷ bs) → is_blank b ≡ false
 run_head b [] h = h

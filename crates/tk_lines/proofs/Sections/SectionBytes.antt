@@ -14,14 +14,14 @@ use Rattle.tk_words.specs.Words.{keyword_of, role}
 use Rattle.tk_lines.specs.Pieces.{Piece, After, Trailing, Early, End, Fault, section_at, last_line, covered, cut}
 use Rattle.tk_lines.specs.Pieces.{end_token, Format, judge, ended}
 use Rattle.tk_lines.specs.Reader.FromMiddle.{ending, prepend, from_line, in_section, goes, new_pieces}
-use Rattle.tk_lines.specs.Reader.Forms.{whole, taken, StopsAt, EndsAtEof, a_section}
+use Rattle.tk_lines.specs.Reader.Handlers.{whole, taken, StopsAt, EndsAtEof, a_section}
 use Rattle.tk_lines.specs.Reader.Places.{IsWord, a_gap, no_word}
 use Rattle.tk_lines.proofs.MiddleOfLine.{with_bytes, end_token-bytes}
 use Rattle.tk_lines.proofs.Sections.MiddleOfSection.{token, run_head, tokens_of-more, tokens_of-end, cut-covered}
 use Rattle.tk_lines.proofs.Sections.MiddleOfSection.{tokens_of-gap, tokens_of-none, tokens_of-run, tokens_of-last}
 use Rattle.tk_lines.proofs.Sections.SectionEnds.{From, First, first_line, to_come, last_taken, take_whole, reaches}
 use Rattle.tk_lines.proofs.Headers.ByteRuns.{behind-all, after_colon, after_other}
-use Rattle.tk_lines.proofs.Lines.{word_ends_behind, from_line-word, after_line, new_at, first-byte, first-LF}
+use Rattle.tk_lines.proofs.KnownWordLines.{word_ends_behind, from_line-word, after_line, new_at, first-byte, first-LF}
 use Rattle.tk_lines.proofs.LineSteps.{pieces_at-line}
 
 module _ {V : Type 0} (f : Format V) (before : List Piece) (word : Keyword) (n0 : ℕ) (toks : List Token) (e : Bool)

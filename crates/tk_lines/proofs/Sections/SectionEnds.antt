@@ -11,11 +11,11 @@ use Rattle.tk_lines.specs.Pieces.{Piece, Section, End, Extents, Clean, Trailing,
 use Rattle.tk_lines.specs.Pieces.{last_line, covered, end_token, end_piece, Format, judge}
 use Rattle.tk_words.specs.declared.fault.TextKind.TheVariants as kinds
 use Rattle.tk_words.specs.MinusOne.{one_more}
-use Rattle.tk_lines.specs.Reader.Forms.{EndsWithMinusOne}
-use Rattle.tk_lines.proofs.Answered.{all_append, all_taken}
+use Rattle.tk_lines.specs.Reader.Handlers.{EndsWithMinusOne}
+use Rattle.tk_lines.proofs.EndedTexts.{all_append, all_taken}
 use Rattle.tk_lines.specs.Reader.FromMiddle.{end_of, ending, new_pieces, goes, in_section, prepend, from_line}
 use Rattle.tk_lines.proofs.MiddleOfLine.{lines-byte, lines_cons}
-use Rattle.tk_words.proofs.Bools.{and_false}
+use Rattle.tk_words.proofs.BoolLaws.{and_false}
 
 abbrev pub StandsFrom : ℕ → Token → Type 0
 StandsFrom n t = n ≤ t.line

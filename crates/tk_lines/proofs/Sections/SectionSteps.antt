@@ -9,7 +9,7 @@ use Rattle.tk_words.specs.declared.fault.TextKind.TheVariants as kinds
 use Rattle.tk_words.specs.Lex.{LF, Token, is_blank, IsUnbroken}
 use Rattle.tk_lines.specs.Pieces.{Piece, Clean, Early, Format, last_line, ended}
 use Rattle.tk_lines.specs.Reader.FromMiddle.{from_line, in_section}
-use Rattle.tk_lines.specs.Reader.Forms.{whole, Goes, Closed, EndsAtEof, StopsAt, a_section}
+use Rattle.tk_lines.specs.Reader.Handlers.{whole, Goes, Closed, EndsAtEof, StopsAt, a_section}
 use Rattle.tk_lines.specs.Reader.Places.{Next, Within, anything, this, a_gap, Says, DecidesIf, AtLine, AtBegin, AtToken}
 use Rattle.tk_lines.specs.Reader.Places.{AtClose}
 use Rattle.tk_lines.proofs.Sections.MiddleOfSection.{in_section-byte, in_section-next}
@@ -19,7 +19,7 @@ use Rattle.tk_lines.proofs.Sections.SectionBytes.{in_section-drop, in_section-to
 use Rattle.tk_lines.proofs.Sections.SectionBytes.{in_section-another, in_section-long, from_line-inside}
 use Rattle.tk_lines.proofs.Sections.SectionBytes.{from_line-colon, plain}
 use Rattle.tk_lines.proofs.LineSteps.{says_byte, tail_byte}
-use Rattle.tk_lines.proofs.SamePlaces.{begin_told, token_told, close_told}
+use Rattle.tk_lines.proofs.SameStates.{begin_reported, token_reported, close_reported}
 
 pub run_more : (held : List ℕ) (b : ℕ) → IsUnbroken held → is_blank b ≡ false → IsUnbroken (held ++ b ∷ [])
 run_more [] b h solid = absurd h
@@ -31,7 +31,7 @@ module _ {V S : Type 0} {f : Format V} {W : S → List Piece → Keyword → ℕ
     {line : ℕ} {held bs : List ℕ} where
   pub begin_plain : Within next plain → AtBegin f W next form line held bs → AtToken f W next form line [] bs
   begin_plain within a =
-      begin_told a (λ e more n. a.at.same e more n
+      begin_reported a (λ e more n. a.at.same e more n
       ∙ from_line-inside f a.before a.at.upto held a.tail e line more a.at.lt a.at.is_word (a.at.settled e more n)
       a.word a.at.word_is a.section a.blank (within e more n))
 
@@ -39,21 +39,21 @@ module _ {V S : Type 0} (f : Format V) (W : S → List Piece → Keyword → ℕ
     (bs : List ℕ) where
   pub gap_LF : AtToken f W (this LF) form line [] bs → AtToken f W anything form (line + 1) [] (bs ++ LF ∷ [])
   gap_LF a =
-      token_told a
+      token_reported a
       (says_byte f LF bs _ _ a.same (λ e more. in_section-next f a.before a.word a.first a.toks e line more
       ∙ ap (λ (n : ℕ). in_section f a.before a.word a.first a.toks [] e n more) (omega arith)))
 
   pub token_byte : (pre : List ℕ) → eqb b LF ≡ false → AtToken f W (this b) form line pre bs →
       AtToken f W anything form line (pre ++ b ∷ []) (bs ++ b ∷ [])
   token_byte pre other a =
-      token_told a
+      token_reported a
       (says_byte f b bs _ _ a.same
       (λ e more. in_section-byte f a.before a.word a.first a.toks pre e line b more other))
 
   pub gap_blank : eqb b LF ≡ false → is_blank b ≡ true → AtToken f W (this b) form line [] bs →
       AtToken f W anything form line [] (bs ++ b ∷ [])
   gap_blank other blank a =
-      token_told a
+      token_reported a
       (says_byte f b bs _ _ a.same (λ e more. in_section-byte f a.before a.word a.first a.toks [] e line b more other
       ∙ in_section-drop f a.before a.word a.first a.toks e line more b blank))
 
@@ -73,7 +73,7 @@ module _ {V S : Type 0} (f : Format V) (W : S → List Piece → Keyword → ℕ
   pub begin_colon : (held : List ℕ) → AtBegin f W (this 58) form line held bs →
       AtToken f W anything form line [] (bs ++ 58 ∷ [])
   begin_colon held a =
-      begin_told a
+      begin_reported a
       (says_byte f 58 bs _ _ a.at.same
       (λ e more. from_line-colon f a.before a.at.upto held a.tail e line more a.at.lt a.at.is_word
       (a.at.settled e (58 ∷ more) refl) a.word a.at.word_is a.section a.blank))
@@ -174,7 +174,7 @@ module _ {V S : Type 0} (f : Format V) (H : S → List Piece → Type 0) (form :
   pub close_blank : eqb b LF ≡ false → is_blank b ≡ true → AtClose f H (this b) form line bs →
       AtClose f H anything form line (bs ++ b ∷ [])
   close_blank other blank a =
-      close_told a
+      close_reported a
       (says_byte f b bs _ _ a.same (λ e more. in_section-byte f a.before a.word a.first a.toks [] e line b more other
       ∙ in_section-drop f a.before a.word a.first a.toks e line more b blank))
 

@@ -3,9 +3,9 @@ use Rattle.std.specs.Prelude.{◌≡◌, ◌<◌, ◌≤◌, ℕ, Bool, true, fa
 use Rattle.std.specs.Prelude.{Some, None, Result}
 use Rattle.tk_words.specs.declared.keyword.Keyword.{Keyword}
 use Rattle.tk_words.specs.declared.fault.TextFault.{TextFault}
-use Rattle.tk_lines.specs.declared.scan.Scan.{Scan}
-use Rattle.tk_lines.specs.declared.place.Place.{Place}
-use Rattle.tk_lines.specs.declared.place.Place.TheVariants as places
+use Rattle.tk_lines.specs.declared.value_scanner.ValueScanner.{ValueScanner}
+use Rattle.tk_lines.specs.declared.line_state.LineState.{LineState}
+use Rattle.tk_lines.specs.declared.line_state.LineState.TheVariants as places
 use Rattle.tk_lines.specs.declared.reader.PieceReader.{PieceReader}
 use Rattle.tk_words.specs.Lex.{LF, Token, is_blank, is_letter, is_word_byte, behind, IsUnbroken}
 use Rattle.tk_words.specs.Words.{keyword_of, role}
@@ -13,9 +13,10 @@ use Rattle.tk_words.specs.declared.keyword.Role.TheVariants.{BeginsHeader, Begin
 use Rattle.tk_lines.specs.Pieces.{Piece, Header, stop, Clean, Format, ended, decided_by, last_line}
 use Rattle.tk_lines.specs.Reader.FromMiddle.{from_line, in_section}
 use Rattle.tk_words.specs.MinusOne.{begins_minus_one}
-use Rattle.tk_lines.specs.Reader.Scan.{Scans}
-use Rattle.tk_lines.specs.Reader.Forms.{Promise, Goes, Closed, EndsWithMinusOne, Holding, Wanting, a_section, a_header}
-use Rattle.tk_lines.specs.Reader.Forms.{whole}
+use Rattle.tk_lines.specs.Reader.ValueScanner.{Scans}
+use Rattle.tk_lines.specs.Reader.Handlers.{Promise, Goes, Closed, EndsWithMinusOne, Holding, Wanting, a_section}
+use Rattle.tk_lines.specs.Reader.Handlers.{a_header}
+use Rattle.tk_lines.specs.Reader.Handlers.{whole}
 use Rattle.tk_words.specs.Texts.{line_behind}
 
 -- a condition on the bytes that follow; the flag is true if the text ends after them
@@ -84,7 +85,7 @@ pub record AtTail {V : Type 0} (f : Format V) (next : Next) (line : ℕ) (held :
   pub same : Says f next bs (λ e more. from_line f before upto (held ++ tail) e line more)
 
 pub record AtValue {V S : Type 0} (f : Format V) (H : Holding S) (next : Next) (form : S) (line : ℕ) (held : List ℕ)
-    (word : Keyword) (scan : Scan) (bs : List ℕ) : Type 0 where
+    (word : Keyword) (scan : ValueScanner) (bs : List ℕ) : Type 0 where
   pub before : List Piece
   pub tail : List ℕ
   pub at : AtTail f next line held word before tail bs
@@ -150,7 +151,8 @@ pub record AtAfter {V S : Type 0} (f : Format V) (H : Holding S) (next : Next) (
 abbrev pub IsMore : List ℕ → Type 0
 IsMore held = IsUnbroken held × (begins_minus_one held ≡ true)
 
-abbrev pub AtPlace : {V S : Type 0} → Format V → Holding S → Wanting S → Next → S → ℕ → List ℕ → Scan → List ℕ → Place →
+abbrev pub AtPlace : {V S : Type 0} → Format V → Holding S → Wanting S → Next → S → ℕ → List ℕ → ValueScanner → List ℕ →
+    LineState →
     Type 0
 AtPlace f holds wants next form line held scan bs places.Start = AtLine f holds next form line [] bs
 AtPlace f holds wants next form line held scan bs places.Word = IsWord held × AtLine f holds next form line held bs

@@ -8,23 +8,23 @@ use Rattle.std.specs.Prelude.{◌≡◌, ℕ, ◌≤◌, Bool, true, false, not,
 use Rattle.std.specs.Prelude.{None, Result, Ok, Err}
 use Rattle.tk_words.specs.declared.fault.TextFault.{TextFault}
 use Rattle.tk_words.specs.declared.keyword.Keyword.{Keyword}
-use Rattle.tk_words.specs.declared.sources.text_reader.Step.{Step}
-use Rattle.tk_words.specs.declared.sources.text_reader.Step.TheVariants.{Taken, Done}
+use Rattle.tk_words.specs.declared.sources.text_reader.FeedResult.{FeedResult}
+use Rattle.tk_words.specs.declared.sources.text_reader.FeedResult.TheVariants.{Taken, Done}
 use Rattle.tk_words.specs.Lex.{LF, IsUnbroken, is_blank, is_word_byte}
-use Rattle.tk_words.specs.Texts.{IsToldOf, cause_of}
-use Rattle.tk_lines.specs.declared.place.Place.{Place}
-use Rattle.tk_lines.specs.declared.place.Place.TheVariants as places
-use Rattle.tk_lines.specs.declared.place.Flow.{Flow}
-use Rattle.tk_lines.specs.declared.place.Flow.TheVariants.{On, Whole}
+use Rattle.tk_words.specs.Texts.{IsReportedOf, cause_of}
+use Rattle.tk_lines.specs.declared.line_state.LineState.{LineState}
+use Rattle.tk_lines.specs.declared.line_state.LineState.TheVariants as places
+use Rattle.tk_lines.specs.declared.line_state.Flow.{Flow}
+use Rattle.tk_lines.specs.declared.line_state.Flow.TheVariants.{On, Whole}
 use Rattle.tk_lines.specs.declared.reader.PieceReader.{PieceReader}
-use Rattle.tk_lines.specs.Reader.Forms.{Promise}
+use Rattle.tk_lines.specs.Reader.Handlers.{Promise}
 use Rattle.tk_lines.specs.Pieces.{Format, decided_by}
 use Rattle.tk_lines.specs.Reader.Places.{Next, Within, Fed, IsInSection, HeaderTaken, DecidesIf, this, anything, at_end}
 use Rattle.tk_lines.specs.Reader.Places.{a_gap, a_line_end, no_word}
 
 -- a fault of the text satisfies P as an error; memory may run out at any time, and the source does not fail
 abbrev pub IsFaultWith : {V : Type 0} → (Result V TextFault → Type 0) → TextFault → Type 0
-IsFaultWith P f = IsToldOf ⊥ (λ e. P (Err e)) f (cause_of f.kind)
+IsFaultWith P f = IsReportedOf ⊥ (λ e. P (Err e)) f (cause_of f.kind)
 
 abbrev pub IsFed : {V S : Type 0} → Promise V S → Next → PieceReader S → Type 0
 IsFed p next reader = (before : List ℕ) × Fed p next reader before
@@ -53,7 +53,7 @@ TakesByte p old new byte result =
     (before : List ℕ) → Fed p anything old before → HasCome p anything new (before ++ byte ∷ []) result
 
 -- whether a byte ends the open word or token
-abbrev pub ends_at : ℕ → Place → Bool
+abbrev pub ends_at : ℕ → LineState → Bool
 ends_at byte places.Word = not (is_word_byte byte)
 ends_at byte places.Token = is_blank byte || byte == LF
 ends_at byte (places.MinusOne on_line) = is_blank byte || byte == LF
@@ -72,21 +72,23 @@ TakesWhole p token old new byte result =
     (before : List ℕ) → IsInSection p (this byte) old token before → HasCome p anything new (before ++ byte ∷ []) result
 
 -- the state of a reader after the first of these bytes
-abbrev pub HasRun : {V S : Type 0} → Promise V S → PieceReader S → List ℕ → List ℕ → Result Step TextFault → Type 0
+abbrev pub HasRun : {V S : Type 0} → Promise V S → PieceReader S → List ℕ → List ℕ → Result FeedResult TextFault → Type
+    0
 HasRun p new before bytes (Ok (Taken n)) = (n ≤ length bytes) × Fed p anything new (before ++ take n bytes)
 HasRun p new before bytes (Ok Done) =
     (n : ℕ) × (n ≤ length bytes) × HasCome p anything new (before ++ take n bytes) (Ok Whole)
 HasRun p new before bytes (Err f) =
     (n : ℕ) × (n ≤ length bytes) × HasCome p anything new (before ++ take n bytes) (Err f)
 
-abbrev pub TakesRun : {V S : Type 0} → Promise V S → PieceReader S → PieceReader S → List ℕ → Result Step TextFault →
+abbrev pub TakesRun : {V S : Type 0} → Promise V S → PieceReader S → PieceReader S → List ℕ → Result FeedResult
+    TextFault →
     Type 0
 TakesRun p old new bytes result = (before : List ℕ) → Fed p anything old before → HasRun p new before bytes result
 
 -- ---- the ends of words, headers and tokens
 
 -- no word or token is open
-abbrev pub IsSettled : Place → Type 0
+abbrev pub IsSettled : LineState → Type 0
 IsSettled places.Word = ⊥
 IsSettled places.Token = ⊥
 IsSettled (places.MinusOne on_line) = ⊥
@@ -99,7 +101,7 @@ Closes p end old new result =
     (next : Next) (before : List ℕ) → Within next end → Fed p next old before → HasCome p next new before result
 
 -- the bytes that follow end the word or token that is open in this state
-abbrev pub EndsPlace : Next → Place → Type 0
+abbrev pub EndsPlace : Next → LineState → Type 0
 EndsPlace next places.Word = Within next no_word
 EndsPlace next places.Token = Within next a_gap
 EndsPlace next (places.MinusOne on_line) = Within next a_gap

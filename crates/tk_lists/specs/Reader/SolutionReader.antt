@@ -8,7 +8,7 @@ use Rattle.tk_lists.specs.declared.route_head.HeadPlace.{HeadPlace}
 use Rattle.tk_lists.specs.declared.route_head.HeadPlace.TheVariants as heads
 use Rattle.tk_lists.specs.declared.route_head.HeadStep.{HeadStep}
 use Rattle.tk_lists.specs.declared.route_head.HeadStep.TheVariants as steps
-use Rattle.tk_lists.specs.declared.solution_form.SolutionForm.{SolutionForm}
+use Rattle.tk_lists.specs.declared.solution_handler.SolutionHandler.{SolutionHandler}
 use Rattle.tk_lists.specs.declared.solution_reader.LinePlace.{LinePlace}
 use Rattle.tk_lists.specs.declared.solution_reader.LinePlace.TheVariants as places
 use Rattle.tk_lists.specs.declared.solution_reader.LineWord.{LineWord}
@@ -47,7 +47,7 @@ HasStepped p b steps.Bad = (bs : List ℕ) → head_from p (b ∷ bs) ≡ Bad
 -- ---- the contents that are stored
 
 -- the form stores the contents of these lines, and of these customers on the line after them
-pub record Keeps (s : SolutionForm) (before : List SolutionLine) (toks : List Token) : Type 0 where
+pub record Keeps (s : SolutionHandler) (before : List SolutionLine) (toks : List Token) : Type 0 where
   pub routes : map (λ r. r.items) s.routes.items ≡ routes_in before
   pub route : s.route.items ≡ numbers_of toks
   pub customers : s.customers ≡ count_of before + length toks
@@ -89,7 +89,7 @@ pub record IsRoute (before : List SolutionLine) (toks : List Token) : Type 0 whe
   pub fine : customers_stop (count_of before) toks ≡ None
 
 -- the current line is Cost with this one number, and has no fault
-pub record IsPriced (s : SolutionForm) (before : List SolutionLine) (n : ℕ) (toks : List Token) : Type 0 where
+pub record IsPriced (s : SolutionHandler) (before : List SolutionLine) (n : ℕ) (toks : List Token) : Type 0 where
   pub price : Token
   pub is : toks ≡ price ∷ []
   pub fine : (whole : Bool) → cost_stop n whole toks ≡ None
@@ -98,7 +98,7 @@ pub record IsPriced (s : SolutionForm) (before : List SolutionLine) (n : ℕ) (t
   pub priced : has_cost before ≡ false
   pub keeps : Keeps s (before ++ Cost toks ∷ []) []
 
-abbrev pub IsAtPlace : SolutionForm → List SolutionLine → List ℕ → ℕ → List Token → LinePlace → Type 0
+abbrev pub IsAtPlace : SolutionHandler → List SolutionLine → List ℕ → ℕ → List Token → LinePlace → Type 0
 IsAtPlace s before held n toks places.Start = (toks ≡ []) × Keeps s before []
 IsAtPlace s before held n toks places.Word = (toks ≡ []) × Keeps s before [] × IsLineWord held
 IsAtPlace s before held n toks places.Skip = (toks ≡ []) × Keeps s before [] × (has_cost before ≡ true)
@@ -132,7 +132,7 @@ LineStopsAt before n b g k = (bs : List ℕ) (whole : Bool) →
     line_stop before n whole (g (b ∷ bs) whole) ≡ Some (Fault n k)
 
 -- a line has ended without a fault, and its contents are stored
-pub record HasEndedLine (before : List SolutionLine) (n : ℕ) (here : SolutionLine) (s : SolutionForm) : Type 0 where
+pub record HasEndedLine (before : List SolutionLine) (n : ℕ) (here : SolutionLine) (s : SolutionHandler) : Type 0 where
   pub fine : line_stop before n true here ≡ None
   pub keeps : Keeps s (before ++ here ∷ []) []
 

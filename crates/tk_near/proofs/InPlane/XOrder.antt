@@ -6,10 +6,10 @@ use Rattle.std.specs.Ordering.{is_lt, int_cmp, nat_cmp, ordering_then}
 use Rattle.std.specs.List.Sorted.{IsPermutation}
 use Rattle.std.specs.Int.RustNames.{int_lt}
 use Rattle.std.proofs.lemmas.Int.{ints}
-use Rattle.tk_near.proofs.InPlane.Rows.{IsRow-moved}
-use Rattle.tk_near.specs.declared.plane.placed.Placed.{Placed}
+use Rattle.tk_near.proofs.InPlane.EachCityOnce.{IsRow-moved}
+use Rattle.tk_near.specs.declared.plane.city_point.CityPoint.{CityPoint}
 use Rattle.tk_problem.specs.declared.point.Point.{Point}
-use Rattle.tk_near.specs.Placed.{nowhere, IsRow}
+use Rattle.tk_near.specs.CityPoint.{nowhere, IsRow}
 use Rattle.tk_near.specs.Sweep.{point_at, IsXOrder}
 
 not_less : (a b : ℤ) (o : Ordering) → is_lt (ordering_then (int_cmp a b) o) ≡ false → b ≤ℤ a
@@ -20,7 +20,7 @@ not_less a b o =
       | false ↦ λ e h. grind (arith, ints)
     ]) refl
 
-climbs : (row : List Placed) → ((k : ℕ) → k + 1 < length row → (point_at row k).x ≤ℤ (point_at row (k + 1)).x) →
+climbs : (row : List CityPoint) → ((k : ℕ) → k + 1 < length row → (point_at row k).x ≤ℤ (point_at row (k + 1)).x) →
     (i t : ℕ) → i + t < length row → (point_at row i).x ≤ℤ (point_at row (i + t)).x
 climbs row up i zero l = let e : i ≡ i + 0 = omega arith in
     subst (λ v. (point_at row i).x ≤ℤ (point_at row v).x) e (omega (arith, ints))
@@ -30,9 +30,9 @@ climbs row up i (suc t) l =
     let next = up (i + t) (omega arith) in
     subst (λ v. (point_at row i).x ≤ℤ (point_at row v).x) e (omega (arith, ints))
 
-pub IsXOrder-from_sort : (n : ℕ) (place_of : ℕ → Point) (first row : List Placed) → IsRow n place_of first →
+pub IsXOrder-from_sort : (n : ℕ) (place_of : ℕ → Point) (first row : List CityPoint) → IsRow n place_of first →
     IsPermutation first row →
-    ((k : ℕ) (d : Placed) → 0 ≤ k → k + 1 < length row →
+    ((k : ℕ) (d : CityPoint) → 0 ≤ k → k + 1 < length row →
     is_lt (ordering_then (int_cmp (get_or row (k + 1) d).place.x (get_or row k d).place.x)
     (nat_cmp (get_or row (k + 1) d).city (get_or row k d).city)) ≡ false) → IsXOrder n place_of row
 IsXOrder-from_sort n place_of first row o moved sorted =

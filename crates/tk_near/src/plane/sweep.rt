@@ -4,12 +4,12 @@ ghost use Rattle.tk_problem.specs.declared.limits.TheConstants.{CANDIDATE_LIMIT}
 ghost use Rattle.tk_distance.specs.Distance.{reach};
 ghost use Rattle.tk_near.specs.Near.{IsNear, AreNearLists};
 ghost use Rattle.tk_near.specs.Keeping.{AreFilled, rank, Climbing, with_candidate, candidate, cities_kept};
-ghost use Rattle.tk_near.specs.Placed.{IsPlaced, placed_city, x_gap};
+ghost use Rattle.tk_near.specs.CityPoint.{IsPlaced, placed_city, x_gap};
 ghost use Rattle.tk_near.specs.Sweep.{IsXOrder, IsSwept, IsBelow};
 
-use crate::candidates::{Candidate, OPEN, comes_before, keep, measure, write_cities};
+use crate::candidates::{Candidate, EMPTY, comes_before, keep, measure, write_cities};
 use crate::near::{Near, room_for};
-use crate::plane::placed::{Placed, row_of};
+use crate::plane::city_point::{CityPoint, row_of};
 use std::alloc::{AllocError, Global};
 use tk_distance::Planar;
 
@@ -17,7 +17,7 @@ use tk_distance::Planar;
 ///
 /// # Errors
 /// `AllocError` if memory runs out.
-pub fn order_by_x<P: Planar>(alloc: Global, m: &P) -> Result<Vec<Placed>, AllocError>
+pub fn order_by_x<P: Planar>(alloc: Global, m: &P) -> Result<Vec<CityPoint>, AllocError>
     ensures { IfOk result (λ v. IsXOrder (P.size_of m.now) (P.place_of m.now) v.items) }
 {
     let mut row = row_of(alloc, m)?;
@@ -37,7 +37,7 @@ fn is_far<P: Planar>(m: &P, difference: u64, kept: &[Candidate]) -> bool
 
 /// Keeps a city if it is near enough. Returns `false` if it is too far in x, as are all cities beyond it.
 #[inline]
-fn meet<P: Planar>(m: &P, here: Placed, there: Placed, kept: &mut [Candidate]) -> bool
+fn meet<P: Planar>(m: &P, here: CityPoint, there: CityPoint, kept: &mut [Candidate]) -> bool
     requires here { IsPlaced (P.size_of m.now) (P.place_of m.now) here }
     requires there { IsPlaced (P.size_of m.now) (P.place_of m.now) there }
     requires room { 1 ≤ length kept.old }
@@ -59,7 +59,7 @@ fn meet<P: Planar>(m: &P, here: Placed, there: Placed, kept: &mut [Candidate]) -
 /// far.
 fn sweep_down<P: Planar>(
     m: &P,
-    row: &[Placed],
+    row: &[CityPoint],
     p: usize,
     low: usize,
     high: usize,
@@ -84,7 +84,7 @@ fn sweep_down<P: Planar>(
 /// beyond are too far.
 fn sweep_up<P: Planar>(
     m: &P,
-    row: &[Placed],
+    row: &[CityPoint],
     p: usize,
     low: usize,
     high: usize,
@@ -106,7 +106,7 @@ fn sweep_up<P: Planar>(
 }
 
 /// Finds the nearest other cities of the city at position p, as many as there is room for.
-fn sweep_city<P: Planar>(m: &P, row: &[Placed], p: usize, kept: &mut [Candidate])
+fn sweep_city<P: Planar>(m: &P, row: &[CityPoint], p: usize, kept: &mut [Candidate])
     requires order { IsXOrder (P.size_of m.now) (P.place_of m.now) row.now }
     requires place { p < length row.now }
     requires low { 1 ≤ length kept.old }
@@ -115,7 +115,7 @@ fn sweep_city<P: Planar>(m: &P, row: &[Placed], p: usize, kept: &mut [Candidate]
     ensures near { IsNear (P.distance m.now) (P.size_of m.now) (length kept.old) (placed_city row.now p)
         (cities_kept kept.new) }
 {
-    kept.fill(OPEN);
+    kept.fill(EMPTY);
     let mut low = p;
     let mut high = p + 1;
     while low > 0 || high < row.len() {
@@ -129,7 +129,7 @@ fn sweep_city<P: Planar>(m: &P, row: &[Placed], p: usize, kept: &mut [Candidate]
 }
 
 /// Fills the list of each city, in x order.
-fn fill_lists<P: Planar>(m: &P, row: &[Placed], kept: &mut [Candidate], entries: &mut [u32])
+fn fill_lists<P: Planar>(m: &P, row: &[CityPoint], kept: &mut [Candidate], entries: &mut [u32])
     requires order { IsXOrder (P.size_of m.now) (P.place_of m.now) row.now }
     requires low { 1 ≤ length kept.old }
     requires high { length kept.old < P.size_of m.now }
@@ -143,7 +143,7 @@ fn fill_lists<P: Planar>(m: &P, row: &[Placed], kept: &mut [Candidate], entries:
 }
 
 /// The near lists, by a sweep from each city in both directions of the x order. It is slow if many cities have almost
-/// the same x; if they differ more in y, wrap the metric in [`Turned`](tk_distance::Turned).
+/// the same x; if they differ more in y, wrap the metric in [`SwappedAxes`](tk_distance::SwappedAxes).
 ///
 /// # Errors
 /// `AllocError` if memory runs out.
@@ -154,7 +154,7 @@ pub fn near_sweep<P: Planar>(alloc: Global, m: &P, k: u32) -> Result<Near, Alloc
     ensures { IfOk result (AreNearLists (P.distance m.now) (P.size_of m.now) k) }
 {
     let row = order_by_x(alloc, m)?;
-    let mut kept = vec![in alloc; OPEN; k as usize]?;
+    let mut kept = vec![in alloc; EMPTY; k as usize]?;
     let mut entries = room_for(alloc, m, k)?;
     fill_lists(m, &row, &mut kept, &mut entries);
     Ok(Near::from_filled(m, k, entries))

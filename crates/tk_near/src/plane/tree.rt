@@ -4,17 +4,17 @@ ghost use Rattle.std.specs.Prelude.{◌++◌, length, ⊤};
 ghost use Rattle.std.specs.Int.RustNames.{unsigned_abs};
 ghost use Rattle.tk_problem.specs.declared.limits.TheConstants.{CANDIDATE_LIMIT};
 ghost use Rattle.tk_distance.specs.Distance.{reach};
-ghost use Rattle.tk_near.specs.declared.plane.placed.Placed.{Placed};
+ghost use Rattle.tk_near.specs.declared.plane.city_point.CityPoint.{CityPoint};
 ghost use Rattle.tk_near.specs.Near.{IsNear, AreNearLists};
 ghost use Rattle.tk_near.specs.Keeping.{AreFilled, cities_kept, rank};
-ghost use Rattle.tk_near.specs.Placed.{IsPlaced, IsRow};
+ghost use Rattle.tk_near.specs.CityPoint.{IsPlaced, IsRow};
 ghost use Rattle.tk_near.specs.Tree.{entries_of, IsInBox, IsFramed, IsHalf, IsBeyond, IsFrom, with_city, with_cities};
 
-use crate::candidates::{Candidate, OPEN, comes_before, measure, write_cities};
+use crate::candidates::{Candidate, EMPTY, comes_before, measure, write_cities};
 use crate::near::{Near, room_for};
-use crate::plane::halve::halve;
-use crate::plane::keeper::{Keeper, Many};
-use crate::plane::placed::{Placed, row_of};
+use crate::plane::city_point::{CityPoint, row_of};
+use crate::plane::collector::{Collector, KNearest};
+use crate::plane::partition_at_median::partition_at_median;
 use std::alloc::{AllocError, Global};
 use tk_distance::{BothAxes, Planar};
 use tk_problem::{COORDINATE_LIMIT, SCALE};
@@ -30,7 +30,7 @@ const WIDEST: u64 = 2 * COORDINATE_LIMIT * SCALE as u64;
 
 /// The bounding box of a subtree's cities, and the range of their numbers.
 #[derive(Clone, Copy, Drop)]
-pub struct Frame {
+pub struct Bounds {
     pub left: i64,
     pub right: i64,
     pub bottom: i64,
@@ -42,12 +42,12 @@ pub struct Frame {
 /// A k-d tree: a leaf with cities, or two subtrees with their bounding boxes.
 #[derive(Drop)]
 pub enum Tree {
-    Leaf(Vec<Placed>),
-    Cut(Frame, Box<Tree>, Frame, Box<Tree>),
+    Leaf(Vec<CityPoint>),
+    Split(Bounds, Box<Tree>, Bounds, Box<Tree>),
 }
 
 /// The bounding box of no cities.
-const NOTHING: Frame = Frame {
+const NOTHING: Bounds = Bounds {
     left: i64::MAX,
     right: i64::MIN,
     bottom: i64::MAX,
@@ -69,12 +69,12 @@ fn gap_between(at: i64, low: i64, high: i64) -> u64
     }
 }
 
-impl Frame {
+impl Bounds {
     /// The bounding box of one city.
-    fn of(p: Placed) -> Frame
+    fn of(p: CityPoint) -> Bounds
         ensures { IsInBox result p }
     {
-        Frame {
+        Bounds {
             left: p.place.x,
             right: p.place.x,
             bottom: p.place.y,
@@ -85,19 +85,19 @@ impl Frame {
     }
 
     /// The smallest box that contains this one and a further city.
-    fn widened(self, p: Placed) -> Frame
+    fn widened(self, p: CityPoint) -> Bounds
         ensures this { IsInBox result p }
-        ensures others { (q : Placed) → IsInBox self q → IsInBox result q }
+        ensures others { (q : CityPoint) → IsInBox self q → IsInBox result q }
     {
-        self.joined(Frame::of(p))
+        self.joined(Bounds::of(p))
     }
 
     /// The smallest box that contains both boxes.
-    pub fn joined(self, other: Frame) -> Frame
-        ensures first { (p : Placed) → IsInBox self p → IsInBox result p }
-        ensures second { (p : Placed) → IsInBox other p → IsInBox result p }
+    pub fn joined(self, other: Bounds) -> Bounds
+        ensures first { (p : CityPoint) → IsInBox self p → IsInBox result p }
+        ensures second { (p : CityPoint) → IsInBox other p → IsInBox result p }
     {
-        Frame {
+        Bounds {
             left: self.left.min(other.left),
             right: self.right.max(other.right),
             bottom: self.bottom.min(other.bottom),
@@ -109,9 +109,9 @@ impl Frame {
 
     /// A lower bound of the larger difference, in x or in y, between `here` and each city of the box.
     #[inline(always)]
-    fn gap(&self, here: &Placed) -> u64
+    fn gap(&self, here: &CityPoint) -> u64
         ensures limit { result ≤ reach }
-        ensures beyond { (p : Placed) → IsInBox self.now p → IsBeyond here.now result p }
+        ensures beyond { (p : CityPoint) → IsInBox self.now p → IsBeyond here.now result p }
     {
         let gap_x = gap_between(here.place.x, self.left, self.right);
         let gap_y = gap_between(here.place.y, self.bottom, self.top);
@@ -120,9 +120,9 @@ impl Frame {
 
     /// A candidate of `here` that no city of the box comes before.
     #[inline(always)]
-    fn first<P: BothAxes>(&self, m: &P, here: &Placed) -> Candidate
+    fn first<P: BothAxes>(&self, m: &P, here: &CityPoint) -> Candidate
         requires { IsPlaced (P.size_of m.now) (P.place_of m.now) here.now }
-        ensures { (p : Placed) → IsPlaced (P.size_of m.now) (P.place_of m.now) p → IsInBox self.now p
+        ensures { (p : CityPoint) → IsPlaced (P.size_of m.now) (P.place_of m.now) p → IsInBox self.now p
             → IsFrom (P.distance m.now) here.now.city result p }
     {
         let gap = self.gap(here);
@@ -134,14 +134,14 @@ impl Frame {
         }
         let floor = m.floor_x(gap) as u64;
         Candidate {
-            distance: floor.min(OPEN.distance as u64) as u32,
+            distance: floor.min(EMPTY.distance as u64) as u32,
             city: self.least,
         }
     }
 
     /// Whether this is the bounding box of no cities.
     #[inline(always)]
-    pub fn is_void(&self) -> bool {
+    pub fn is_empty(&self) -> bool {
         self.greatest < self.least
     }
 
@@ -152,61 +152,61 @@ impl Frame {
 }
 
 /// The bounding box of these cities.
-pub fn frame_of(row: &[Placed]) -> Frame
+pub fn bounds_of(row: &[CityPoint]) -> Bounds
     ensures { All (IsInBox result) row.now }
 {
-    let mut frame = NOTHING;
+    let mut bounds = NOTHING;
     for p in row {
-        frame = frame.widened(*p);
+        bounds = bounds.widened(*p);
     }
-    frame
+    bounds
 }
 
 /// Whether a row is taller than wide, judged by a sample of its cities. It has no contract: a wrong answer costs only
 /// time.
-fn is_tall(row: &[Placed]) -> bool {
-    let mut frame = NOTHING;
+fn is_tall(row: &[CityPoint]) -> bool {
+    let mut bounds = NOTHING;
     for part in row.chunks(row.len() / SAMPLE + 1) {
         if let Some(p) = part.first() {
-            frame = frame.widened(*p);
+            bounds = bounds.widened(*p);
         }
     }
-    frame.is_tall()
+    bounds.is_tall()
 }
 
 /// A leaf with these cities, and their bounding box.
-fn leaf_of(alloc: Global, row: &[Placed]) -> Result<(Tree, Frame), AllocError>
+fn leaf_of(alloc: Global, row: &[CityPoint]) -> Result<(Tree, Bounds), AllocError>
     ensures entries { IfOk result (λ r. entries_of r.0 ≡ row.now) }
     ensures framed { IfOk result (λ r. IsFramed r.0) }
     ensures within { IfOk result (λ r. All (IsInBox r.1) (entries_of r.0)) }
 {
     let mut leaf = Vec::with_capacity(alloc, row.len())?;
     leaf.extend_from_slice(row)?;
-    Ok((Tree::Leaf(leaf), frame_of(row)))
+    Ok((Tree::Leaf(leaf), bounds_of(row)))
 }
 
 /// The tree of two halves, each given with its bounding box, and the bounding box of both.
-fn cut_into(
+fn split_into(
     alloc: Global,
-    lower: (Tree, Frame),
-    upper: (Tree, Frame),
-) -> Result<(Tree, Frame), AllocError>
+    lower: (Tree, Bounds),
+    upper: (Tree, Bounds),
+) -> Result<(Tree, Bounds), AllocError>
     requires lower { IsHalf lower.1 lower.0 }
     requires upper { IsHalf upper.1 upper.0 }
     ensures entries { IfOk result (λ r. entries_of r.0 ≡ entries_of lower.0 ++ entries_of upper.0) }
     ensures framed { IfOk result (λ r. IsFramed r.0) }
     ensures within { IfOk result (λ r. All (IsInBox r.1) (entries_of r.0)) }
 {
-    let (lower_tree, lower_frame) = lower;
-    let (upper_tree, upper_frame) = upper;
+    let (lower_tree, lower_bounds) = lower;
+    let (upper_tree, upper_bounds) = upper;
     let lower_box = Box::new(alloc, lower_tree)?;
     let upper_box = Box::new(alloc, upper_tree)?;
-    let tree = Tree::Cut(lower_frame, lower_box, upper_frame, upper_box);
-    Ok((tree, lower_frame.joined(upper_frame)))
+    let tree = Tree::Split(lower_bounds, lower_box, upper_bounds, upper_box);
+    Ok((tree, lower_bounds.joined(upper_bounds)))
 }
 
 /// Builds the tree of these cities, brings them into its order, and returns the tree and their bounding box.
-fn plant(alloc: Global, row: &mut [Placed]) -> Result<(Tree, Frame), AllocError>
+fn build(alloc: Global, row: &mut [CityPoint]) -> Result<(Tree, Bounds), AllocError>
     ensures moved { IfOk result (λ _. IsPermutation row.old row.new) }
     ensures entries { IfOk result (λ r. entries_of r.0 ≡ row.new) }
     ensures framed { IfOk result (λ r. IsFramed r.0) }
@@ -215,65 +215,68 @@ fn plant(alloc: Global, row: &mut [Placed]) -> Result<(Tree, Frame), AllocError>
     if row.len() <= LEAF {
         return leaf_of(alloc, row);
     }
-    halve(row, is_tall(row));
+    partition_at_median(row, is_tall(row));
     let (lower_row, upper_row) = row.split_at_mut(row.len() / 2);
-    let lower = plant(alloc, lower_row)?;
-    let upper = plant(alloc, upper_row)?;
-    cut_into(alloc, lower, upper)
+    let lower = build(alloc, lower_row)?;
+    let upper = build(alloc, upper_row)?;
+    split_into(alloc, lower, upper)
 }
 
 /// The cities of a metric in the order of a tree, and that tree.
 ///
 /// # Errors
 /// `AllocError` if memory runs out.
-pub fn planted<P: Planar>(alloc: Global, m: &P) -> Result<(Vec<Placed>, Tree), AllocError>
+pub fn build_tree<P: Planar>(alloc: Global, m: &P) -> Result<(Vec<CityPoint>, Tree), AllocError>
     ensures row { IfOk result (λ r. IsRow (P.size_of m.now) (P.place_of m.now) r.0.items) }
     ensures entries { IfOk result (λ r. entries_of r.1 ≡ r.0.items) }
     ensures framed { IfOk result (λ r. IsFramed r.1) }
 {
     let mut row = row_of(alloc, m)?;
-    let (tree, _) = plant(alloc, &mut row)?;
+    let (tree, _) = build(alloc, &mut row)?;
     Ok((row, tree))
 }
 
 /// The branches from the root of the tree to a subtree: bit i is 1 if branch i leads to the upper half. No contract
 /// depends on them: they record where a city was found, so that it can be removed there.
 #[derive(Clone, Copy)]
-pub struct Path {
-    sides: u64,
+pub struct TreePath {
+    branches: u64,
     next: u64,
 }
 
 /// The path of the root.
-pub const START: Path = Path { sides: 0, next: 1 };
+pub const START: TreePath = TreePath {
+    branches: 0,
+    next: 1,
+};
 
-impl Path {
+impl TreePath {
     /// The branches taken, one bit each.
     #[inline(always)]
-    pub fn sides(self) -> u64 {
-        self.sides
+    pub fn branches(self) -> u64 {
+        self.branches
     }
 
-    /// Whether the path `sides` leads to the upper half next.
+    /// Whether the path `branches` leads to the upper half next.
     #[inline(always)]
-    pub fn goes_up(self, sides: u64) -> bool {
-        sides & self.next != 0
+    pub fn goes_up(self, branches: u64) -> bool {
+        branches & self.next != 0
     }
 
     /// The path of the lower half.
     #[inline(always)]
-    pub fn lower(self) -> Path {
-        Path {
-            sides: self.sides,
+    pub fn lower(self) -> TreePath {
+        TreePath {
+            branches: self.branches,
             next: self.next << 1,
         }
     }
 
     /// The path of the upper half.
     #[inline(always)]
-    pub fn upper(self) -> Path {
-        Path {
-            sides: self.sides | self.next,
+    pub fn upper(self) -> TreePath {
+        TreePath {
+            branches: self.branches | self.next,
             next: self.next << 1,
         }
     }
@@ -287,92 +290,105 @@ fn may_enter(first: Candidate, last: Candidate) -> bool
     first.is_before(last)
 }
 
-/// Passes a city to `keeper`.
+/// Passes a city to `collector`.
 #[inline(always)]
-fn show<P: Planar, K: Keeper>(m: &P, here: &Placed, there: &Placed, sides: u64, keeper: &mut K)
+fn show<P: Planar, K: Collector>(
+    m: &P,
+    here: &CityPoint,
+    there: &CityPoint,
+    branches: u64,
+    collector: &mut K,
+)
     requires here { IsPlaced (P.size_of m.now) (P.place_of m.now) here.now }
     requires there { IsPlaced (P.size_of m.now) (P.place_of m.now) there.now }
-    ensures { K.kept_of keeper.new ≡ with_city (P.distance m.now) here.now.city there.now (K.kept_of keeper.old) }
+    ensures { K.kept_of collector.new ≡ with_city (P.distance m.now) here.now.city there.now (K.kept_of collector.old) }
 {
-    if there.city != here.city && comes_before(m, here.city, there.city, keeper.last()) {
-        keeper.keep(measure(m, here.city, there.city), sides);
+    if there.city != here.city && comes_before(m, here.city, there.city, collector.last()) {
+        collector.keep(measure(m, here.city, there.city), branches);
     }
 }
 
-/// Passes the cities of a leaf to `keeper`.
-pub fn search_leaf<P: Planar, K: Keeper>(
+/// Passes the cities of a leaf to `collector`.
+pub fn search_leaf<P: Planar, K: Collector>(
     m: &P,
-    here: &Placed,
-    leaf: &[Placed],
-    sides: u64,
-    keeper: &mut K,
+    here: &CityPoint,
+    leaf: &[CityPoint],
+    branches: u64,
+    collector: &mut K,
 )
     requires here { IsPlaced (P.size_of m.now) (P.place_of m.now) here.now }
     requires placed { All (IsPlaced (P.size_of m.now) (P.place_of m.now)) leaf.now }
-    ensures { K.kept_of keeper.new ≡ with_cities (P.distance m.now) here.now.city leaf.now (K.kept_of keeper.old) }
+    ensures { K.kept_of collector.new
+        ≡ with_cities (P.distance m.now) here.now.city leaf.now (K.kept_of collector.old) }
 {
     for there in leaf {
-        show(m, here, there, sides, keeper);
+        show(m, here, there, branches, collector);
     }
 }
 
-/// Passes the near cities of a tree to `keeper`. A half is skipped if no city of its box comes before the last one
+/// Passes the near cities of a tree to `collector`. A half is skipped if no city of its box comes before the last one
 /// kept.
-pub fn search<P: BothAxes, K: Keeper>(m: &P, here: &Placed, tree: &Tree, path: Path, keeper: &mut K)
+pub fn search<P: BothAxes, K: Collector>(
+    m: &P,
+    here: &CityPoint,
+    tree: &Tree,
+    path: TreePath,
+    collector: &mut K,
+)
     requires here { IsPlaced (P.size_of m.now) (P.place_of m.now) here.now }
     requires placed { All (IsPlaced (P.size_of m.now) (P.place_of m.now)) (entries_of tree.now) }
     requires framed { IsFramed tree.now }
-    ensures { K.kept_of keeper.new
-        ≡ with_cities (P.distance m.now) here.now.city (entries_of tree.now) (K.kept_of keeper.old) }
+    ensures { K.kept_of collector.new
+        ≡ with_cities (P.distance m.now) here.now.city (entries_of tree.now) (K.kept_of collector.old) }
 {
     match tree {
-        Tree::Leaf(leaf) => search_leaf(m, here, leaf, path.sides, keeper),
-        Tree::Cut(lower_frame, lower, upper_frame, upper) => {
-            let lower_first = lower_frame.first(m, here);
-            let upper_first = upper_frame.first(m, here);
+        Tree::Leaf(leaf) => search_leaf(m, here, leaf, path.branches, collector),
+        Tree::Split(lower_bounds, lower, upper_bounds, upper) => {
+            let lower_first = lower_bounds.first(m, here);
+            let upper_first = upper_bounds.first(m, here);
             if lower_first.is_before(upper_first) {
-                if may_enter(lower_first, keeper.last()) {
-                    search(m, here, lower, path.lower(), keeper);
+                if may_enter(lower_first, collector.last()) {
+                    search(m, here, lower, path.lower(), collector);
                 }
-                if may_enter(upper_first, keeper.last()) {
-                    search(m, here, upper, path.upper(), keeper);
+                if may_enter(upper_first, collector.last()) {
+                    search(m, here, upper, path.upper(), collector);
                 }
             } else {
-                if may_enter(upper_first, keeper.last()) {
-                    search(m, here, upper, path.upper(), keeper);
+                if may_enter(upper_first, collector.last()) {
+                    search(m, here, upper, path.upper(), collector);
                 }
-                if may_enter(lower_first, keeper.last()) {
-                    search(m, here, lower, path.lower(), keeper);
+                if may_enter(lower_first, collector.last()) {
+                    search(m, here, lower, path.lower(), collector);
                 }
             }
         }
     }
 }
 
-/// Passes the near cities of a half to `keeper`. It is skipped if no city of its box comes before the last one kept.
+/// Passes the near cities of a half to `collector`. It is skipped if no city of its box comes before the last one kept.
 #[inline(always)]
-pub fn search_half<P: BothAxes, K: Keeper>(
+pub fn search_half<P: BothAxes, K: Collector>(
     m: &P,
-    here: &Placed,
-    frame: &Frame,
+    here: &CityPoint,
+    bounds: &Bounds,
     half: &Tree,
-    path: Path,
-    keeper: &mut K,
+    path: TreePath,
+    collector: &mut K,
 )
     requires here { IsPlaced (P.size_of m.now) (P.place_of m.now) here.now }
     requires placed { All (IsPlaced (P.size_of m.now) (P.place_of m.now)) (entries_of half.now) }
     requires framed { IsFramed half.now }
-    requires within { All (IsInBox frame.now) (entries_of half.now) }
-    ensures { K.kept_of keeper.new
-        ≡ with_cities (P.distance m.now) here.now.city (entries_of half.now) (K.kept_of keeper.old) }
+    requires within { All (IsInBox bounds.now) (entries_of half.now) }
+    ensures { K.kept_of collector.new
+        ≡ with_cities (P.distance m.now) here.now.city (entries_of half.now) (K.kept_of collector.old) }
 {
-    if may_enter(frame.first(m, here), keeper.last()) {
-        search(m, here, half, path, keeper);
+    if may_enter(bounds.first(m, here), collector.last()) {
+        search(m, here, half, path, collector);
     }
 }
 
 /// Finds the nearest other cities of the city `here`, as many as there is room for.
-fn search_city<P: BothAxes>(m: &P, here: &Placed, tree: &Tree, many: &mut Many)
+fn search_city<P: BothAxes>(m: &P, here: &CityPoint, tree: &Tree, many: &mut KNearest)
     requires here { IsPlaced (P.size_of m.now) (P.place_of m.now) here.now }
     requires row { IsRow (P.size_of m.now) (P.place_of m.now) (entries_of tree.now) }
     requires framed { IsFramed tree.now }
@@ -388,9 +404,9 @@ fn search_city<P: BothAxes>(m: &P, here: &Placed, tree: &Tree, many: &mut Many)
 /// Fills the list of each city, in the order of the tree.
 fn fill_from_tree<P: BothAxes>(
     m: &P,
-    row: &[Placed],
+    row: &[CityPoint],
     tree: &Tree,
-    many: &mut Many,
+    many: &mut KNearest,
     entries: &mut [u32],
 )
     requires row { IsRow (P.size_of m.now) (P.place_of m.now) row.now }
@@ -413,7 +429,7 @@ fn fill_from_tree<P: BothAxes>(
 fn lists_by_tree<P: BothAxes>(
     alloc: Global,
     m: &P,
-    row: &[Placed],
+    row: &[CityPoint],
     tree: &Tree,
     k: u32,
 ) -> Result<Near, AllocError>
@@ -425,7 +441,7 @@ fn lists_by_tree<P: BothAxes>(
     requires high { k < P.size_of m.now }
     ensures { IfOk result (AreNearLists (P.distance m.now) (P.size_of m.now) k) }
 {
-    let mut many = Many::new(alloc, k as usize)?;
+    let mut many = KNearest::new(alloc, k as usize)?;
     let mut entries = room_for(alloc, m, k)?;
     fill_from_tree(m, row, tree, &mut many, &mut entries);
     Ok(Near::from_filled(m, k, entries))
@@ -441,6 +457,6 @@ pub fn near_tree<P: BothAxes>(alloc: Global, m: &P, k: u32) -> Result<Near, Allo
     requires high { k < P.size_of m.now }
     ensures { IfOk result (AreNearLists (P.distance m.now) (P.size_of m.now) k) }
 {
-    let (row, tree) = planted(alloc, m)?;
+    let (row, tree) = build_tree(alloc, m)?;
     lists_by_tree(alloc, m, &row, &tree, k)
 }

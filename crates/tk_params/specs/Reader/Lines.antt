@@ -10,9 +10,9 @@ IsFaultless (Faulty kind) = ⊥
 IsFaultless _ = Unit {0}
 
 -- the kind of a fault satisfies P, unless memory ran out
-abbrev pub IsToldKind : (ParamKind → Type 0) → ParamKind → Type 0
-IsToldKind P kinds.NoMemory = Unit {0}
-IsToldKind P k = P k
+abbrev pub IsReportedKind : (ParamKind → Type 0) → ParamKind → Type 0
+IsReportedKind P kinds.NoMemory = Unit {0}
+IsReportedKind P k = P k
 
 -- a line without a fault has been taken
 pub record HasTakenLine (old new : Settings) (means : Meaning) : Type 0 where

@@ -3,16 +3,16 @@ use Rattle.std.specs.Prelude.{◌≡◌, ◌≤◌, ℕ, Bool, false, not, ◌&&
 use Rattle.std.specs.Prelude.{Err}
 use Rattle.std.specs.Prelude.{unwrap_or}
 use Rattle.std.specs.Option.{IsSome}
-use Rattle.tk_words.specs.declared.sources.text_reader.Step.{Step}
-use Rattle.tk_words.specs.declared.sources.text_reader.Step.TheVariants.{Taken, Done}
-use Rattle.tk_words.specs.Texts.{Decides, IsTold, line_behind}
+use Rattle.tk_words.specs.declared.sources.text_reader.FeedResult.{FeedResult}
+use Rattle.tk_words.specs.declared.sources.text_reader.FeedResult.TheVariants.{Taken, Done}
+use Rattle.tk_words.specs.Texts.{Decides, IsReported, line_behind}
 use Rattle.tk_words.specs.Lex.{is_blank, is_empty, behind, lines}
 use Rattle.tk_lines.specs.Reader.FromMiddle.{prepend}
 use Rattle.tk_params.specs.declared.fault.ParamFault.{ParamFault}
 use Rattle.tk_params.specs.declared.key.Key.TheVariants as keys
 use Rattle.tk_params.specs.declared.reader.ParamReader.{ParamReader}
-use Rattle.tk_params.specs.Asked.{ParamsAre, asked, asked_of, file_in}
-use Rattle.tk_params.specs.Reader.Lines.{HasTakenLine, IsToldKind}
+use Rattle.tk_params.specs.Requested.{ParamsAre, requested, requested_of, file_in}
+use Rattle.tk_params.specs.Reader.Lines.{HasTakenLine, IsReportedKind}
 use Rattle.tk_params.specs.Values.{Settings, Faulty, line_means, look}
 use Rattle.tk_params.specs.Params.{line_limit, spells_eof, word_of, behind_word, judge_params, param_pieces}
 use Rattle.tk_params.specs.Params.{params_decided}
@@ -44,10 +44,10 @@ pub record ParamsWait (s : ParamReader) (bs : List ℕ) : Type 0 where
 
 -- the parameters of a reader whose settings name the problem file
 abbrev pub params_in : ParamReader → ParamsAre
-params_in s = asked_of (unwrap_or (file_in (look keys.ProblemFile s.settings)) []) s.settings
+params_in s = requested_of (unwrap_or (file_in (look keys.ProblemFile s.settings)) []) s.settings
 
 abbrev pub NamesProblem : ParamReader → Type 0
-NamesProblem s = IsSome (asked s.settings)
+NamesProblem s = IsSome (requested s.settings)
 
 -- the current line has been taken
 pub record IsLineTaken (old new : ParamReader) : Type 0 where
@@ -57,14 +57,14 @@ pub record IsLineTaken (old new : ParamReader) : Type 0 where
 -- the current line has a fault, unless memory ran out
 pub record IsStopped (old : ParamReader) (f : ParamFault) : Type 0 where
   pub line : f.line ≡ old.line
-  pub told : IsToldKind (λ k. line_means old.settings old.held.items ≡ Faulty k) f.kind
+  pub reported : IsReportedKind (λ k. line_means old.settings old.held.items ≡ Faulty k) f.kind
 
 abbrev pub TakesLine : ParamReader → ParamReader → Result (Unit {0}) ParamFault → Type 0
 TakesLine old new (Ok _) = IsLineTaken old new
 TakesLine old new (Err f) = IsStopped old f
 
 -- bytes are taken; or they complete the text; or they have a fault
-abbrev pub HasReadByte : ParamReader → List ℕ → Result Step ParamFault → Type 0
+abbrev pub HasReadByte : ParamReader → List ℕ → Result FeedResult ParamFault → Type 0
 HasReadByte new bs (Ok (Taken n)) = (n ≡ 1) × Feeds new bs
 HasReadByte new bs (Ok Done) = Decides params_texts bs (Ok (params_in new)) × NamesProblem new
-HasReadByte new bs (Err f) = IsTold params_texts (Decides params_texts bs) f
+HasReadByte new bs (Err f) = IsReported params_texts (Decides params_texts bs) f

@@ -6,7 +6,8 @@ use Rattle.tk_params.specs.declared.key.Key.{Key}
 use Rattle.tk_params.specs.declared.value.Setting.{Setting}
 use Rattle.tk_params.specs.declared.value.Setting.TheVariants as stored
 use Rattle.tk_params.specs.declared.params.Params.TheInside.{Inside as Fields}
-use Rattle.tk_params.specs.Asked.{HasEachKeyOnce, AreSettings, ParamsAre, ignored_keys}
+use Rattle.tk_params.specs.Requested.{HasEachKeyOnce, AreSettings, ParamsAre, ignored_keys}
+use Rattle.tk_params.specs.SearchOf.{search_is}
 use Rattle.tk_params.specs.Values.{Value, File, Number, Way, Switch, Ignored, Settings, look, same_key}
 
 -- the value of a stored setting
@@ -43,12 +44,6 @@ params_in p =
       tour_file = option_map string_bytes p.tour_file;
       solution_file = option_map string_bytes p.solution_file;
       initial_tour_file = option_map string_bytes p.initial_tour_file;
-      runs = p.runs;
-      max_trials = p.max_trials;
-      seed = p.seed;
-      max_candidates = p.max_candidates;
-      construction = p.construction;
-      final_sweep = p.final_sweep;
-      or_segment = p.or_segment;
+      search = search_is p.search;
       ignored = p.ignored.items;
     }

@@ -57,7 +57,7 @@ fn put_depot_word<W: Sink>(pen: &mut Pen<'_, W>, depot: Option<u32>, city: u32)
 /// Writes the line of a city.
 fn put_city<W: Sink>(pen: &mut Pen<'_, W>, picture: &Picture<'_>, city: u32)
     requires { IsCity (city_count picture.now.view) city }
-    ensures { Puts W.Sink pen.old pen.new (city_line picture.now.view.frame
+    ensures { Puts W.Sink pen.old pen.new (city_line picture.now.view.extent
         (places_of picture.now.view.places) picture.now.demands.now picture.now.depot city) }
 {
     picture.view.put_spot(pen, city);
@@ -71,7 +71,7 @@ fn put_city<W: Sink>(pen: &mut Pen<'_, W>, picture: &Picture<'_>, city: u32)
 /// Writes the lines of all cities.
 pub(crate) fn put_cities<W: Sink>(pen: &mut Pen<'_, W>, picture: &Picture<'_>)
     ensures { Puts W.Sink pen.old pen.new (data_block (codes "cities")
-        (flat_map (city_line picture.now.view.frame (places_of picture.now.view.places) picture.now.demands.now
+        (flat_map (city_line picture.now.view.extent (places_of picture.now.view.places) picture.now.demands.now
         picture.now.depot) (range_with_len 1 (city_count picture.now.view)))) }
 {
     pen.put(b"<script type=\"text/plain\" id=\"cities\">\n");

@@ -7,16 +7,16 @@ use Rattle.std.proofs.lemmas.List.{append-nil, length-map, length_push, map_push
 use Rattle.tk_problem.specs.declared.limits.TheConstants.{CAPACITY_LIMIT}
 use Rattle.tk_words.specs.declared.fault.TextKind.{TextKind}
 use Rattle.tk_lines.specs.Pieces.{Fault, first_at}
-use Rattle.tk_lines.specs.Reader.Forms.{IsToldWord}
-use Rattle.tk_lines.specs.declared.form.Taken.TheVariants as takens
+use Rattle.tk_lines.specs.Reader.Handlers.{IsReportedWord}
+use Rattle.tk_lines.specs.declared.handler.Taken.TheVariants as takens
 use Rattle.tk_words.specs.Lex.{Token, integer}
 use Rattle.tk_problem_text.specs.Reader.FixedTokens.{fixed_taken}
 use Rattle.tk_words.specs.Entry.{number_tests}
 use Rattle.tk_problem_text.specs.Reader.Nodes.{Named, HasNamed, HasNext}
 use Rattle.tk_problem_text.specs.Reader.Demands.{Loading, HasDemands}
 use Rattle.tk_problem_text.specs.Sections.Rows.{number_in, nodes_in, demand_rows, demands_of, node_tests, demand_tests}
-use Rattle.tk_problem_text.proofs.SectionTokens.Rows.{by_node-push, rows_named, whole_rows, node_tests-told}
-use Rattle.tk_problem_text.proofs.SectionTokens.Rows.{number_tests-told}
+use Rattle.tk_problem_text.proofs.SectionTokens.Rows.{by_node-push, rows_named, whole_rows, node_tests-reported}
+use Rattle.tk_problem_text.proofs.SectionTokens.Rows.{number_tests-reported}
 use Rattle.tk_problem_text.proofs.SectionTokens.FixedSections.{EndsRow, fixed_taken-last, fixed_taken-more}
 
 -- ---- the rows
@@ -44,19 +44,19 @@ pub demand_tests-node : (n : ℕ) (toks : List Token) (t : Token) → IsWhole to
     demand_tests n toks t ≡ node_tests n (nodes_in (demand_rows toks)) t
 demand_tests-node n toks t whole = rw (eq-eqb (length toks % 2) 0 (omega (arith, whole))) refl
 
--- the first test that holds is told
-pub demand_tests-told : (n : ℕ) (toks : List Token) (t : Token) (line : ℕ) (k : TextKind) →
+-- the first test that holds is reported
+pub demand_tests-reported : (n : ℕ) (toks : List Token) (t : Token) (line : ℕ) (k : TextKind) →
     first_at line (demand_tests n toks t) ≡ Some (Fault line k) →
-    IsToldWord (λ k. first_at line (demand_tests n toks t) ≡ Some (Fault line k)) k
-demand_tests-told n toks t line k = by_test (eqb (length toks % 2) 0)
+    IsReportedWord (λ k. first_at line (demand_tests n toks t) ≡ Some (Fault line k)) k
+demand_tests-reported n toks t line k = by_test (eqb (length toks % 2) 0)
   where
     tests : Bool → List (Bool × TextKind)
     tests b = cond b (node_tests n (nodes_in (demand_rows toks)) t) (number_tests 0 CAPACITY_LIMIT t.bytes)
 
     by_test : (b : Bool) → first_at line (tests b) ≡ Some (Fault line k) →
-        IsToldWord (λ k. first_at line (tests b) ≡ Some (Fault line k)) k
-    by_test true h = node_tests-told n (nodes_in (demand_rows toks)) t line k h
-    by_test false h = number_tests-told 0 CAPACITY_LIMIT t.bytes line k h
+        IsReportedWord (λ k. first_at line (tests b) ≡ Some (Fault line k)) k
+    by_test true h = node_tests-reported n (nodes_in (demand_rows toks)) t line k h
+    by_test false h = number_tests-reported 0 CAPACITY_LIMIT t.bytes line k h
 
 -- ---- the states
 

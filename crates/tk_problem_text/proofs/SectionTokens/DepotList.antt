@@ -1,6 +1,6 @@
 -- The section of a depot, token by token.
 --
--- For an implementation of `Form`: let `wants` say of an open section `HasDepotTokens before first toks`, beside
+-- For an implementation of `Handler`: let `wants` say of an open section `HasDepotTokens before first toks`, beside
 -- `HasDepot (size_of before) depot toks`. Then
 -- * `section`: `begins` gives the first `HasDepotTokens`, and `goes` the `Goes`;
 -- * `token`: `ready` (of `FixedSections`) for the token; of what `Depot::take` ensures, `stops` makes what is promised
@@ -15,15 +15,15 @@ use Rattle.tk_words.specs.declared.keyword.Keyword.{Keyword}
 use Rattle.tk_words.specs.declared.keyword.Keyword.TheVariants as words
 use Rattle.tk_words.specs.declared.fault.TextKind.{TextKind}
 use Rattle.tk_words.specs.declared.fault.TextKind.TheVariants as kinds
-use Rattle.tk_lines.specs.declared.form.Taken.{Taken}
-use Rattle.tk_lines.specs.declared.form.Taken.TheVariants as takens
+use Rattle.tk_lines.specs.declared.handler.Taken.{Taken}
+use Rattle.tk_lines.specs.declared.handler.Taken.TheVariants as takens
 use Rattle.tk_words.specs.Lex.{Token, is_empty}
 use Rattle.tk_lines.specs.Pieces.{Piece, After, Clean, Trailing, Early, Stop, Open, Fault, first_at, or_else}
 use Rattle.tk_words.specs.MinusOne.{is_ending}
 use Rattle.tk_words.specs.Entry.{is_eof}
 use Rattle.tk_lines.specs.Lists.{list_extent, list_entries}
-use Rattle.tk_lines.specs.Reader.Forms.{IsToldWord, a_section, taken, Goes, EndsWithMinusOne, EndsAtEof, StopsAt}
-use Rattle.tk_lines.specs.Reader.Forms.{HasTakenToken}
+use Rattle.tk_lines.specs.Reader.Handlers.{IsReportedWord, a_section, taken, Goes, EndsWithMinusOne, EndsAtEof, StopsAt}
+use Rattle.tk_lines.specs.Reader.Handlers.{HasTakenToken}
 use Rattle.tk_problem_text.specs.Sections.FixedSections.{tokens_stop}
 use Rattle.tk_problem_text.specs.Sections.DepotList.{depot_tests, depot_extent, depot_entries, depot_end}
 use Rattle.tk_problem_text.specs.Reader.DepotTaken.{IsDepot, HasDepot, is_list_end, DepotTakes, DepotRefuses}
@@ -32,7 +32,7 @@ use Rattle.tk_problem_text.specs.Problem.{problem_format, size_of, word_tests}
 use Rattle.tk_problem_text.proofs.SectionTokens.FixedSections.{IsReady, stop_at, stop_at_long, stop_at_open}
 use Rattle.tk_problem_text.proofs.SectionTokens.DepotTaken.{has_none}
 use Rattle.tk_lines.proofs.Sections.ListTokens.{long_goes, open_goes}
-use Rattle.tk_lines.proofs.Pieces.ToldFaults.{told_word}
+use Rattle.tk_lines.proofs.Pieces.ReportedFaults.{reported_word}
 
 passes : (toks : List Token) (t : Token) → (is_ending t ≡ false) × ((t.whole && is_eof t.bytes) ≡ false) →
     (not (is_empty toks) && is_list_end t) ≡ false
@@ -161,10 +161,11 @@ module _ {before : List Piece} {n : ℕ} where
         (stop_at (depot_tests (size_of before)) toks t has.good ready (Fault t.line k) h.fault)
 
     -- what is promised of a token that the reader refuses
-    pub stops : (k : TextKind) → IsToldWord (DepotRefuses (size_of before) toks t) k →
-        IsToldWord (StopsAt problem_format before words.DepotSection n toks t) k
+    pub stops : (k : TextKind) → IsReportedWord (DepotRefuses (size_of before) toks t) k →
+        IsReportedWord (StopsAt problem_format before words.DepotSection n toks t) k
     stops k h =
-        told_word (DepotRefuses (size_of before) toks t) (StopsAt problem_format before words.DepotSection n toks t) k
+        reported_word (DepotRefuses (size_of before) toks t) (StopsAt problem_format before words.DepotSection n toks t)
+        k
         (stops_at k) h
 
   -- what is promised of a token that it took

@@ -4,12 +4,12 @@ use Rattle.std.proofs.Common.{refl, sym, ap, subst}
 use Rattle.std.specs.Prelude.{IfOk, IfErr}
 use Rattle.tk_problem_text.specs.declared.sections.depot.Depot.{Depot}
 use Rattle.tk_words.specs.declared.fault.TextKind.{TextKind}
-use Rattle.tk_lines.specs.declared.form.Taken.{Taken}
+use Rattle.tk_lines.specs.declared.handler.Taken.{Taken}
 use Rattle.tk_words.specs.Lex.{Token, is_empty}
 use Rattle.tk_lines.specs.Pieces.{first_at}
 use Rattle.tk_words.specs.Entry.{natural_or_zero, IsNumber}
 use Rattle.tk_problem_text.specs.Sections.Rows.{number_in}
-use Rattle.tk_lines.specs.Reader.Forms.{IsToldWord}
+use Rattle.tk_lines.specs.Reader.Handlers.{IsReportedWord}
 use Rattle.tk_problem_text.specs.Sections.FixedSections.{all_tests, tokens_stop}
 use Rattle.tk_problem_text.specs.Sections.DepotList.{depot_tests}
 use Rattle.tk_problem_text.specs.Reader.DepotTaken.{IsDepot, HasDepot, DepotTakes, DepotRefuses}
@@ -27,8 +27,9 @@ module _ (n : ℕ) (s : Depot) (toks : List Token) (has : HasDepot n s toks) whe
   at_some x is = subst (λ d. IsDepot n d toks) is has.node
 
   module _ (none : s.node ≡ None) (t : Token) where
-    pub refused_first : (k : TextKind) → IsToldWord (DepotRefuses s.size [] t) k → IsToldWord (DepotRefuses n toks t) k
-    refused_first k h = rw (at_none none) (subst (λ m. IsToldWord (DepotRefuses m [] t) k) has.size h)
+    pub refused_first : (k : TextKind) → IsReportedWord (DepotRefuses s.size [] t) k → IsReportedWord
+        (DepotRefuses n toks t) k
+    refused_first k h = rw (at_none none) (subst (λ m. IsReportedWord (DepotRefuses m [] t) k) has.size h)
 
     -- the node is taken
     pub has_node : IsReady t → (x : ℕ) → IsNumber 1 s.size t.bytes x →
@@ -48,8 +49,8 @@ module _ (n : ℕ) (s : Depot) (toks : List Token) (has : HasDepot n s toks) whe
     pub takes_behind : ((node : Token) → IfOk r (DepotTakes n s s (node ∷ []) t)) → IfOk r (DepotTakes n s s toks t)
     takes_behind h = let a = at_some x some in rw a.1 (h a.0)
 
-    pub refused_behind : ((node : Token) → IfErr r (IsToldWord (DepotRefuses n (node ∷ []) t))) →
-        IfErr r (IsToldWord (DepotRefuses n toks t))
+    pub refused_behind : ((node : Token) → IfErr r (IsReportedWord (DepotRefuses n (node ∷ []) t))) →
+        IfErr r (IsReportedWord (DepotRefuses n toks t))
     refused_behind h = let a = at_some x some in rw a.1 (h a.0)
 
   pub no_node : s.node ≡ None → is_empty toks ≡ true

@@ -1,12 +1,12 @@
 -- Sections of a fixed count of tokens, token by token.
 --
--- For an implementation of `Form`: let `wants` say `HasTokens format before word first tests count toks` of an open
+-- For an implementation of `Handler`: let `wants` say `HasTokens format before word first tests count toks` of an open
 -- section of a fixed count, beside what its state holds of `toks`. Then
 -- * `section`: `problem_fixed` gives the `IsFixed` of a section whose word's tests all fail, `begins` the first
 -- `HasTokens`,
 --   and `goes` the `Goes`; `problem_refused` is for a word at which a test holds;
 -- * `token`: `ready` for the token; `stops_at_keyword` where it is a keyword; for a fault that the section's reader
--- tells, `told`
+-- tells, `reported`
 --   makes of it what is promised of an `Err`; for a token that it took, `has_taken` what is promised of an `Ok`;
 -- * `end_section`: `ends_early`.
 use Rattle.std.proofs.Common.{◌≡◌, ◌≢◌, ℕ, zero, suc, ◌<◌, ◌≤◌, min, Bool, true, false, cond, eqb, List, [], ◌∷◌, ◌++◌}
@@ -16,15 +16,16 @@ use Rattle.std.proofs.lemmas.Bool.{lt-ltb, le-ltb, le-leb, lt-leb, eqb-true, eqb
 use Rattle.tk_words.specs.declared.keyword.Keyword.{Keyword}
 use Rattle.tk_words.specs.declared.fault.TextKind.{TextKind}
 use Rattle.tk_words.specs.declared.fault.TextKind.TheVariants as kinds
-use Rattle.tk_lines.specs.declared.form.Taken.TheVariants as takens
+use Rattle.tk_lines.specs.declared.handler.Taken.TheVariants as takens
 use Rattle.tk_words.specs.Lex.{Token}
 use Rattle.tk_lines.specs.Pieces.{Piece, Stop, Open, Fault, first_at, checked, or_else, After, Clean, Trailing, Early}
 use Rattle.tk_lines.specs.Pieces.{Format}
 use Rattle.tk_words.specs.Entry.{is_keyword}
-use Rattle.tk_lines.specs.Reader.Forms.{IsToldWord, whole, a_section, taken, Goes, Closed, StopsAt, HasTakenToken}
+use Rattle.tk_lines.specs.Reader.Handlers.{IsReportedWord, whole, a_section, taken, Goes, Closed, StopsAt}
+use Rattle.tk_lines.specs.Reader.Handlers.{HasTakenToken}
 use Rattle.tk_problem_text.specs.Sections.FixedSections.{TokenTests, all_tests, tokens_stop}
 use Rattle.tk_problem_text.specs.Reader.FixedTokens.{fixed_taken, IsFixed, HasTokens}
-use Rattle.tk_lines.proofs.Pieces.ToldFaults.{told_word}
+use Rattle.tk_lines.proofs.Pieces.ReportedFaults.{reported_word}
 
 -- ---- one token
 
@@ -174,10 +175,10 @@ module _ {V : Type 0} {f : Format V} {before : List Piece} {word : Keyword} {n :
       stops_at k fault =
           section_stops toks has t (Fault t.line k) (stop_at_fault tests toks t has.good ready number k fault)
 
-      -- a fault that is told of a token is one of its section
-      pub told : (k : TextKind) → IsToldWord (λ k. first_at t.line (tests toks t) ≡ Some (Fault t.line k)) k →
-          IsToldWord (StopsAt f before word n toks t) k
-      told k = told_word (λ k. first_at t.line (tests toks t) ≡ Some (Fault t.line k))
+      -- a fault that is reported of a token is one of its section
+      pub reported : (k : TextKind) → IsReportedWord (λ k. first_at t.line (tests toks t) ≡ Some (Fault t.line k)) k →
+          IsReportedWord (StopsAt f before word n toks t) k
+      reported k = reported_word (λ k. first_at t.line (tests toks t) ≡ Some (Fault t.line k))
           (StopsAt f before word n toks t) k (stops_at k)
 
       module _ (none : first_at t.line (tests toks t) ≡ None) where

@@ -9,22 +9,22 @@ use Rattle.tk_words.specs.declared.keyword.Keyword.{Keyword}
 use Rattle.tk_words.specs.declared.keyword.Keyword.TheVariants as words
 use Rattle.tk_words.specs.declared.fault.TextKind.{TextKind}
 use Rattle.tk_words.specs.declared.fault.TextKind.TheVariants as kinds
-use Rattle.tk_lines.specs.declared.form.Taken.{Taken}
-use Rattle.tk_lines.specs.declared.form.Taken.TheVariants as takens
+use Rattle.tk_lines.specs.declared.handler.Taken.{Taken}
+use Rattle.tk_lines.specs.declared.handler.Taken.TheVariants as takens
 use Rattle.tk_problem_text.specs.declared.sections.depot.Depot.{Depot}
 use Rattle.tk_problem_text.specs.declared.sections.open_section.OpenSection.{OpenSection}
 use Rattle.tk_problem_text.specs.declared.sections.open_section.OpenSection.TheVariants.{Nothing, Home, Display}
 use Rattle.tk_words.specs.Lex.{Token, is_empty}
 use Rattle.tk_lines.specs.Pieces.{Piece, Clean, Early, Fault, first_at, Stop, or_else, After}
 use Rattle.tk_words.specs.Entry.{is_keyword, is_some_word}
-use Rattle.tk_lines.specs.Reader.Forms.{IsToldWord, whole, a_section, HasTakenToken, StopsAt}
+use Rattle.tk_lines.specs.Reader.Handlers.{IsReportedWord, whole, a_section, HasTakenToken, StopsAt}
 use Rattle.tk_problem_text.specs.Reader.FixedTokens.{fixed_taken, IsFixed}
 use Rattle.tk_problem_text.specs.Sections.FixedSections.{tokens_stop, fixed_end}
 use Rattle.tk_problem_text.specs.Sections.Rows.{number_in}
 use Rattle.tk_problem_text.specs.Problem.{problem_format, size_of, token_tests, wanted, word_tests}
 use Rattle.tk_problem_text.specs.Reader.DepotTaken.{HasDepot, DepotTakes, DepotRefuses}
 use Rattle.tk_problem_text.specs.Reader.OpenSections.{HasSome, IsOpen, IsCounted, IsFirstNode, IsFull, IsPast}
-use Rattle.tk_problem_text.proofs.SectionTokens.FixedSections.{ready, stops_at_keyword, told, has_taken}
+use Rattle.tk_problem_text.proofs.SectionTokens.FixedSections.{ready, stops_at_keyword, reported, has_taken}
 use Rattle.tk_problem_text.proofs.SectionTokens.FixedSections.{fixed_taken-last, fixed_taken-more}
 use Rattle.tk_problem_text.proofs.SectionTokens.DepotTaken.{some_node, node_of, node_of-ended}
 use Rattle.tk_problem_text.proofs.SectionTokens.DepotList as Depots
@@ -57,7 +57,7 @@ module _ (bytes : List ℕ) (short : length bytes ≤ 64) (before : List Piece) 
       (whole bytes line)
 
   abbrev Refuses : Keyword → TextKind → Type 0
-  Refuses word = IsToldWord (StopsAt problem_format before word n toks (whole bytes line))
+  Refuses word = IsReportedWord (StopsAt problem_format before word n toks (whole bytes line))
 
   -- a keyword ends no section of a fixed count
   pub at_keyword : (word : Keyword) (s : OpenSection) → IsCounted s → is_keyword bytes ≡ true →
@@ -131,11 +131,11 @@ module _ (bytes : List ℕ) (short : length bytes ≤ 64) (before : List Piece) 
           subst (λ w. IfOk r (Takes w s)) (sym is) (IfOk-weaker r _ (Takes at s) each now)
 
       pub refuses : IfErr r
-          (IsToldWord (λ k. first_at line (token_tests before at toks (whole bytes line)) ≡ Some (Fault line k))) →
+          (IsReportedWord (λ k. first_at line (token_tests before at toks (whole bytes line)) ≡ Some (Fault line k))) →
           IfErr r (Refuses word)
       refuses h =
           subst (λ w. IfErr r (Refuses w)) (sym is)
-          (IfErr-weaker r _ (Refuses at) (told has_at (ready bytes line short) number) h)
+          (IfErr-weaker r _ (Refuses at) (reported has_at (ready bytes line short) number) h)
 
   -- ---- the depot
 
@@ -177,7 +177,7 @@ module _ (bytes : List ℕ) (short : length bytes ≤ 64) (before : List Piece) 
         (IfOk-weaker r _ (Takes words.DepotSection (Home s')) took (h (size_of before) toks line is_open.2))
 
     pub home_refuse : ((m : ℕ) (ts : List Token) (l : ℕ) → HasDepot m s ts →
-        IfErr r (IsToldWord (DepotRefuses m ts (whole bytes l)))) → IfErr r (Refuses word)
+        IfErr r (IsReportedWord (DepotRefuses m ts (whole bytes l)))) → IfErr r (Refuses word)
     home_refuse refuses = subst (λ w. IfErr r (Refuses w)) (sym is_open.0)
         (IfErr-weaker r _ (Refuses words.DepotSection) (Depots.stops is_open.1 (ready bytes line short))
         (refuses (size_of before) toks line is_open.2))

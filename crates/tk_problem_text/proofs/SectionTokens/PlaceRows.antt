@@ -11,7 +11,7 @@ use Rattle.std.proofs.lemmas.Int.{to_z-of_z, fits_signed_from_abs}
 use Rattle.tk_words.specs.declared.fault.TextKind.{TextKind}
 use Rattle.tk_words.specs.declared.fault.TextKind.TheVariants as kinds
 use Rattle.tk_problem.specs.declared.point.Point.{Point}
-use Rattle.tk_lines.specs.declared.form.Taken.TheVariants as takens
+use Rattle.tk_lines.specs.declared.handler.Taken.TheVariants as takens
 use Rattle.tk_problem_text.specs.declared.sections.coordinates.Wanted.{Wanted}
 use Rattle.tk_problem_text.specs.declared.sections.coordinates.Wanted.TheVariants as wants
 use Rattle.tk_words.specs.Lex.{Token}
@@ -23,9 +23,9 @@ use Rattle.tk_problem_text.specs.Reader.Nodes.{Named, HasNamed, HasNext}
 use Rattle.tk_problem_text.specs.Reader.Coordinates.{Placing, IsWantedWithin, HasPlaces}
 use Rattle.tk_problem_text.specs.Sections.Rows.{number_in, coordinate_in, is_near, nodes_in, place_rows, row_places}
 use Rattle.tk_problem_text.specs.Sections.Rows.{node_tests, coordinate_tests, place_tests}
-use Rattle.tk_lines.specs.Reader.Forms.{IsToldWord}
+use Rattle.tk_lines.specs.Reader.Handlers.{IsReportedWord}
 use Rattle.tk_problem_text.proofs.SectionTokens.Rows.{by_node-push, rows_named, whole_rows}
-use Rattle.tk_lines.proofs.Pieces.ToldFaults.{told_first}
+use Rattle.tk_lines.proofs.Pieces.ReportedFaults.{reported_first}
 use Rattle.tk_problem_text.proofs.SectionTokens.FixedSections.{EndsRow, fixed_taken-last, fixed_taken-more}
 
 -- ---- the rows
@@ -91,9 +91,9 @@ module _ (t : Token) (line : ℕ) where
       rw (o.1, o.0) refl
 
   pub coordinate_tests-err : (k : TextKind) → Err k ≡ limited (decimal_of t.bytes) →
-      IsToldWord (λ k. first_at line (coordinate_tests t) ≡ Some (Fault line k)) k
+      IsReportedWord (λ k. first_at line (coordinate_tests t) ≡ Some (Fault line k)) k
   coordinate_tests-err k e =
-      told_first line k (coordinate_tests t) (refl, (refl, tt)) (limited-err (decimal_of t.bytes) line k e)
+      reported_first line k (coordinate_tests t) (refl, (refl, tt)) (limited-err (decimal_of t.bytes) line k e)
 
 -- ---- the states
 

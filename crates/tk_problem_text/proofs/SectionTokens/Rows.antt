@@ -11,13 +11,13 @@ use Rattle.std.proofs.lemmas.List.Folds.{list_any-append}
 use Rattle.tk_words.specs.declared.fault.TextKind.{TextKind}
 use Rattle.tk_words.specs.declared.fault.TextKind.TheVariants as kinds
 use Rattle.tk_words.specs.Lex.{Token, integer}
-use Rattle.tk_words.proofs.Bools.{or_true}
+use Rattle.tk_words.proofs.BoolLaws.{or_true}
 use Rattle.tk_lines.specs.Pieces.{Fault, first_at}
 use Rattle.tk_words.specs.Entry.{number_tests}
-use Rattle.tk_lines.specs.Reader.Forms.{IsToldWord}
+use Rattle.tk_lines.specs.Reader.Handlers.{IsReportedWord}
 use Rattle.tk_problem_text.specs.Reader.Nodes.{Named, HasNamed}
 use Rattle.tk_problem_text.specs.Sections.Rows.{number_in, is_among, nodes_in, row_of, by_node, node_tests}
-use Rattle.tk_lines.proofs.Pieces.ToldFaults.{told_first}
+use Rattle.tk_lines.proofs.Pieces.ReportedFaults.{reported_first}
 
 -- ---- a table with an entry for each of 1..n
 
@@ -129,14 +129,14 @@ module _ (n : ℕ) (nodes : List ℕ) (t : Token) (index line : ℕ) (is : integ
       first_at line (node_tests n nodes t) ≡ Some (Fault line kinds.BadNode)
   node_tests-again = node_by_flag true
 
--- what is told of a node
-pub node_tests-told : (n : ℕ) (nodes : List ℕ) (t : Token) (line : ℕ) (k : TextKind) →
+-- what is reported of a node
+pub node_tests-reported : (n : ℕ) (nodes : List ℕ) (t : Token) (line : ℕ) (k : TextKind) →
     first_at line (node_tests n nodes t) ≡ Some (Fault line k) →
-    IsToldWord (λ k. first_at line (node_tests n nodes t) ≡ Some (Fault line k)) k
-node_tests-told n nodes t line k = told_first line k (node_tests n nodes t) (refl, (refl, tt))
+    IsReportedWord (λ k. first_at line (node_tests n nodes t) ≡ Some (Fault line k)) k
+node_tests-reported n nodes t line k = reported_first line k (node_tests n nodes t) (refl, (refl, tt))
 
 -- and of a number
-pub number_tests-told : (low high : ℕ) (bs : List ℕ) (line : ℕ) (k : TextKind) →
+pub number_tests-reported : (low high : ℕ) (bs : List ℕ) (line : ℕ) (k : TextKind) →
     first_at line (number_tests low high bs) ≡ Some (Fault line k) →
-    IsToldWord (λ k. first_at line (number_tests low high bs) ≡ Some (Fault line k)) k
-number_tests-told low high bs line k = told_first line k (number_tests low high bs) (refl, (refl, tt))
+    IsReportedWord (λ k. first_at line (number_tests low high bs) ≡ Some (Fault line k)) k
+number_tests-reported low high bs line k = reported_first line k (number_tests low high bs) (refl, (refl, tt))

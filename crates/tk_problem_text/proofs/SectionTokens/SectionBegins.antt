@@ -16,12 +16,12 @@ use Rattle.tk_problem_text.specs.declared.sections.explicit_weights.ExplicitWeig
 use Rattle.tk_problem_text.specs.declared.sections.open_section.OpenSection.{OpenSection}
 use Rattle.tk_problem_text.specs.declared.sections.open_section.OpenSection.TheVariants as sections
 use Rattle.tk_problem_text.specs.declared.parts.Parts.{Parts}
-use Rattle.tk_problem.specs.declared.place.Place.{Place}
+use Rattle.tk_problem.specs.declared.cell.Cell.{Cell}
 use Rattle.tk_problem.specs.declared.weights.Format.{Format}
 use Rattle.tk_problem.specs.declared.weights.Format.TheVariants as formats
 use Rattle.tk_words.specs.Words.{same_word}
 use Rattle.tk_lines.specs.Pieces.{Piece, Fault, first_at, has, value_of}
-use Rattle.tk_lines.specs.Reader.Forms.{IsToldWord}
+use Rattle.tk_lines.specs.Reader.Handlers.{IsReportedWord}
 use Rattle.tk_problem_text.specs.Reader.Parts.{HasParts}
 use Rattle.tk_problem_text.specs.Reader.Weighing.{HasWeights}
 use Rattle.tk_problem.specs.WeightOrder.{order, is_of, times_written}
@@ -34,7 +34,7 @@ use Rattle.tk_problem_text.proofs.SectionTokens.FixedSections.{begins}
 use Rattle.tk_problem_text.proofs.SectionTokens.OpenSections.{problem_fixed}
 use Rattle.tk_problem.proofs.WeightCounts.{pair-order}
 use Rattle.tk_problem_text.proofs.PartsWhole.{number_in_limits}
-use Rattle.tk_lines.proofs.Pieces.ToldFaults as Told
+use Rattle.tk_lines.proofs.Pieces.ReportedFaults as Reported
 
 -- ---- explicit weights
 
@@ -66,7 +66,7 @@ of_came : (known came : Bool) → cond known (Some came) None ≡ Some false →
 of_came true false h = (refl, refl)
 of_came _ _ h = absurd cc
 
-some_places : (q : Place → Bool) (xs : List Place) → count_by q xs ≢ 0 → 0 < length xs
+some_places : (q : Cell → Bool) (xs : List Cell) → count_by q xs ≢ 0 → 0 < length xs
 some_places q [] h = absurd (h refl)
 some_places q (x ∷ xs) h = omega arith
 
@@ -145,9 +145,9 @@ module _ {p : Parts} {before : List Piece} {word : Keyword} {kind : ProblemType}
         begun = open_at before word n none (omega (arith, size_is, size_within.0)) s ready.untouched;
       }
 
-  pub told_word : (n : ℕ) (k : TextKind) →
-      IsToldWord (λ k. first_at n (section_tests before word) ≡ Some (Fault n k)) k →
-      IsToldWord (λ k. first_at n (word_tests before word) ≡ Some (Fault n k)) k
-  told_word n k =
-      Told.told_word (λ k. first_at n (section_tests before word) ≡ Some (Fault n k))
+  pub reported_word : (n : ℕ) (k : TextKind) →
+      IsReportedWord (λ k. first_at n (section_tests before word) ≡ Some (Fault n k)) k →
+      IsReportedWord (λ k. first_at n (word_tests before word) ≡ Some (Fault n k)) k
+  reported_word n k =
+      Reported.reported_word (λ k. first_at n (section_tests before word) ≡ Some (Fault n k))
       (λ k. first_at n (word_tests before word) ≡ Some (Fault n k)) k (λ h. word_passes n ∙ h)

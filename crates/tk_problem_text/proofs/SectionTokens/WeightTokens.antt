@@ -7,11 +7,11 @@ use Rattle.std.proofs.Math.Bool.{and-false}
 use Rattle.std.proofs.lemmas.Bool.{eq-eqb, ne_eqb, eqb-true, eqb-false, le-leb, le-ltb}
 use Rattle.std.proofs.lemmas.List.{length-map, length_push, map_push}
 use Rattle.tk_problem.specs.declared.limits.TheConstants.{DISTANCE_LIMIT}
-use Rattle.tk_problem.specs.declared.place.Place.{Place}
+use Rattle.tk_problem.specs.declared.cell.Cell.{Cell}
 use Rattle.tk_problem.specs.declared.weights.Format.{Format}
 use Rattle.tk_words.specs.declared.fault.TextKind.{TextKind}
 use Rattle.tk_words.specs.declared.fault.TextKind.TheVariants as kinds
-use Rattle.tk_lines.specs.Reader.Forms.{IsToldWord}
+use Rattle.tk_lines.specs.Reader.Handlers.{IsReportedWord}
 use Rattle.tk_words.specs.Lex.{Token, integer}
 use Rattle.tk_lines.specs.Pieces.{Fault, first_at}
 use Rattle.tk_words.specs.Entry.{in_range}
@@ -21,14 +21,14 @@ use Rattle.tk_problem_text.specs.Sections.WeightSection.{weights_in, is_full, pl
 use Rattle.tk_problem.specs.WeightsSoFar.{Filling, IsSoFar}
 use Rattle.tk_problem_text.specs.declared.sections.explicit_weights.ExplicitWeights.{ExplicitWeights}
 use Rattle.tk_problem_text.specs.Reader.Weighing.{HasWeights}
-use Rattle.tk_lines.specs.declared.form.Taken.TheVariants as takens
+use Rattle.tk_lines.specs.declared.handler.Taken.TheVariants as takens
 use Rattle.tk_problem_text.specs.Reader.FixedTokens.{fixed_taken}
 use Rattle.tk_problem_text.proofs.SectionTokens.FixedSections.{fixed_taken-last, fixed_taken-more}
 use Rattle.tk_problem.proofs.PairWeights.{origin}
 use Rattle.tk_problem.proofs.WeightsSoFar.{IsNext, next_place}
 
 -- where this is the next place
-module _ (n : ℕ) (f : Format) (toks : List Token) (t : Token) (p : Place) (here : place_behind n f toks ≡ p) where
+module _ (n : ℕ) (f : Format) (toks : List Token) (t : Token) (p : Cell) (here : place_behind n f toks ≡ p) where
   pub weight_on_diagonal : (z : ℤ) → integer t.bytes ≡ Some z → p.row ≡ p.column →
       first_at t.line (weight_tests n f toks t) ≡ None
   weight_on_diagonal z is same =
@@ -72,10 +72,10 @@ module _ (n : ℕ) (f : Format) (toks : List Token) (t : Token) (p : Place) (her
           rw (here, is, unequal, above, within, other, again) refl
 
 module _ (n : ℕ) (f : Format) (s : ExplicitWeights) (toks : List Token) (has : HasWeights n f s toks) where
-  pub next_of : (p : Place) → slice_get s.lower.places 0 ≡ Some p → IsNext f n (weights_in toks) p
+  pub next_of : (p : Cell) → slice_get s.lower.places 0 ≡ Some p → IsNext f n (weights_in toks) p
   next_of p first = next_place s.lower f n (weights_in toks) p has.so_far first
 
-  pub place_here : (p : Place) → slice_get s.lower.places 0 ≡ Some p → place_behind n f toks ≡ p
+  pub place_here : (p : Cell) → slice_get s.lower.places 0 ≡ Some p → place_behind n f toks ≡ p
   place_here p first = ap (λ k. get_or (order f n) k origin) (sym (length-map toks number_in)) ∙ (next_of p first).here
 
   pub more_weights : (lower : Filling) (t : Token) → IsSoFar lower f n (weights_in toks ++ number_in t ∷ []) →
@@ -104,14 +104,14 @@ pub if_some : {A : Type 0} (P : A → Type 0) {o : Option A} {a : A} → o ≡ S
 if_some P e h = subst (λ o. IfSome o P) e h
 
 -- a second weight of a pair, unlike the first
-pub told_again : (n : ℕ) (f : Format) (s : ExplicitWeights) (toks : List Token) → HasWeights n f s toks
-    → (t : Token) (p : Place) (w : ℕ)
+pub reported_again : (n : ℕ) (f : Format) (s : ExplicitWeights) (toks : List Token) → HasWeights n f s toks
+    → (t : Token) (p : Cell) (w : ℕ)
     → slice_get s.lower.places 0 ≡ Some p → p.column < p.row → integer t.bytes ≡ Some (pos w) → w ≤ DISTANCE_LIMIT
     → (is_full s.format && ltb p.column p.row) ≡ true
     → (k : TextKind) → (k ≡ kinds.NotSymmetric (suc p.column) (suc p.row))
     × (w ≢ weight_of p.row p.column (entries f n (weights_in toks)))
-    → IsToldWord (λ k. first_at t.line (weight_tests n f toks t) ≡ Some (Fault t.line k)) k
-told_again n f s toks has t p w first below is small again k unlike =
+    → IsReportedWord (λ k. first_at t.line (weight_tests n f toks t) ≡ Some (Fault t.line k)) k
+reported_again n f s toks has t p w first below is small again k unlike =
     let apart : p.row ≢ p.column = λ e. omega (arith, e, below) in
     let full : (is_full f && ltb p.column p.row) ≡ true =
     subst (λ f. (is_full f && ltb p.column p.row) ≡ true) has.format again in

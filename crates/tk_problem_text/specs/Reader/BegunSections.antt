@@ -3,7 +3,7 @@ use Rattle.std.specs.Prelude.{IfErr, Result}
 use Rattle.tk_words.specs.declared.fault.TextKind.{TextKind}
 use Rattle.tk_problem_text.specs.declared.parts.Parts.{Parts}
 use Rattle.tk_lines.specs.Pieces.{Fault, Piece, first_at, has}
-use Rattle.tk_lines.specs.Reader.Forms.{IsToldWord}
+use Rattle.tk_lines.specs.Reader.Handlers.{IsReportedWord}
 use Rattle.tk_problem_text.specs.Reader.Parts.{HasParts}
 use Rattle.std.specs.Prelude.{◌≡◌, ◌≤◌, ◌*◌, ℕ, Bool, true, false, List, [], Option, Some, None, if◌then◌else◌}
 use Rattle.tk_problem.specs.declared.limits.TheConstants.{TABLE_LIMIT}
@@ -50,4 +50,4 @@ pub record IsBegunSection (before : List Piece) (word : Keyword) (n : ℕ) (s : 
 abbrev pub RefusesToBegin : Parts → Keyword → Result OpenSection TextKind → Type 0
 RefusesToBegin parts word result =
     (before : List Piece) (n : ℕ) → HasParts parts before →
-    IfErr result (IsToldWord (λ k. first_at n (word_tests before word) ≡ Some (Fault n k)))
+    IfErr result (IsReportedWord (λ k. first_at n (word_tests before word) ≡ Some (Fault n k)))

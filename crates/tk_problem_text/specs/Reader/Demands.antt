@@ -1,9 +1,9 @@
 -- The state of the reader of demands.
 use Rattle.std.specs.Prelude.{IfErr, Result, ◌≡◌, ◌<◌, ◌*◌, ℕ, List, [], ◌∷◌, ◌++◌, length, Option, Some, None}
 use Rattle.tk_words.specs.declared.fault.TextKind.{TextKind}
-use Rattle.tk_lines.specs.declared.form.Taken.{Taken}
+use Rattle.tk_lines.specs.declared.handler.Taken.{Taken}
 use Rattle.tk_lines.specs.Pieces.{Fault, first_at}
-use Rattle.tk_lines.specs.Reader.Forms.{whole}
+use Rattle.tk_lines.specs.Reader.Handlers.{whole}
 use Rattle.tk_problem_text.specs.Sections.Rows.{demand_tests, demand_rows, nodes_in, demands_of}
 use Rattle.tk_words.specs.Lex.{Token}
 use Rattle.tk_problem_text.specs.Reader.Nodes.{Named, HasNamed, HasNext}

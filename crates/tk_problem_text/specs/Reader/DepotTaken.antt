@@ -1,11 +1,11 @@
 -- The state of the reader of the depot.
 use Rattle.std.specs.Prelude.{IfErr, IfOk, Result}
-use Rattle.tk_lines.specs.Reader.Forms.{IsToldWord, whole}
+use Rattle.tk_lines.specs.Reader.Handlers.{IsReportedWord, whole}
 use Rattle.std.specs.Prelude.{◌≡◌, ◌≤◌, ℕ, Bool, true, false, not, ◌&&◌, ◌||◌, List, [], ◌∷◌, ◌++◌, Option, Some, None}
 use Rattle.tk_problem_text.specs.declared.sections.depot.Depot.{Depot}
 use Rattle.tk_words.specs.declared.fault.TextKind.{TextKind}
-use Rattle.tk_lines.specs.declared.form.Taken.{Taken}
-use Rattle.tk_lines.specs.declared.form.Taken.TheVariants as takens
+use Rattle.tk_lines.specs.declared.handler.Taken.{Taken}
+use Rattle.tk_lines.specs.declared.handler.Taken.TheVariants as takens
 use Rattle.tk_words.specs.Lex.{Token, is_empty}
 use Rattle.tk_lines.specs.Pieces.{Fault, first_at}
 use Rattle.tk_words.specs.MinusOne.{is_ending}
@@ -51,4 +51,4 @@ TakesDepot token old new result =
 abbrev pub RefusesDepot : List ℕ → Depot → Result Taken TextKind → Type 0
 RefusesDepot token old result =
     (n : ℕ) (toks : List Token) (line : ℕ) → HasDepot n old toks →
-    IfErr result (IsToldWord (DepotRefuses n toks (whole token line)))
+    IfErr result (IsReportedWord (DepotRefuses n toks (whole token line)))

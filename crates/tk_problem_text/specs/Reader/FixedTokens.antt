@@ -3,11 +3,11 @@ use Rattle.std.specs.Prelude.{◌≡◌, ◌<◌, ℕ, suc, ◌==◌, List, [], 
 use Rattle.std.specs.Prelude.{IfOk, IfErr}
 use Rattle.tk_words.specs.declared.fault.TextKind.{TextKind}
 use Rattle.tk_words.specs.declared.keyword.Keyword.{Keyword}
-use Rattle.tk_lines.specs.declared.form.Taken.{Taken}
-use Rattle.tk_lines.specs.declared.form.Taken.TheVariants as takens
+use Rattle.tk_lines.specs.declared.handler.Taken.{Taken}
+use Rattle.tk_lines.specs.declared.handler.Taken.TheVariants as takens
 use Rattle.tk_words.specs.Lex.{Token}
 use Rattle.tk_lines.specs.Pieces.{Piece, After, Fault, Format, first_at, or_else}
-use Rattle.tk_lines.specs.Reader.Forms.{IsToldWord, whole}
+use Rattle.tk_lines.specs.Reader.Handlers.{IsReportedWord, whole}
 use Rattle.tk_problem_text.specs.Sections.FixedSections.{TokenTests, fixed_end, fixed_extent, tokens_stop}
 
 -- the effect of a token after these tokens
@@ -40,4 +40,4 @@ abbrev pub RefusesFixed : {S : Type 0} → (S → List Token → Type 0) → Tok
     Result Taken TextKind → Type 0
 RefusesFixed has tests token old result =
     (toks : List Token) (line : ℕ) → has old toks
-    → IfErr result (IsToldWord (λ k. first_at line (tests toks (whole token line)) ≡ Some (Fault line k)))
+    → IfErr result (IsReportedWord (λ k. first_at line (tests toks (whole token line)) ≡ Some (Fault line k)))

@@ -5,7 +5,7 @@ use Rattle.tk_words.specs.declared.keyword.Keyword.{Keyword}
 use Rattle.tk_words.specs.declared.fault.TextKind.{TextKind}
 use Rattle.tk_words.specs.declared.fault.TextKind.TheVariants as kinds
 use Rattle.tk_lines.specs.Pieces.{Piece, has, value_of, first_at, Fault}
-use Rattle.tk_lines.specs.Reader.Forms.{IsToldWord}
+use Rattle.tk_lines.specs.Reader.Handlers.{IsReportedWord}
 
 -- the value of a header is stored once the header has been read
 pub record KeepsHeader {A : Type 0} (word : Keyword) (of : List ℕ → Option A) (kept : Option A)
@@ -17,7 +17,7 @@ pub record KeepsHeader {A : Type 0} (word : Keyword) (of : List ℕ → Option A
 pub record ValueSays {A : Type 0} (f : List ℕ → Option A) (tests : List (Bool × TextKind)) (v : List ℕ)
     (said : Result A TextKind) : Type 0 where
   pub ok : IfOk said (λ a. (f v ≡ Some a) × ((n : ℕ) → first_at n tests ≡ None))
-  pub err : IfErr said (IsToldWord (λ k. (n : ℕ) → first_at n tests ≡ Some (Fault n k)))
+  pub err : IfErr said (IsReportedWord (λ k. (n : ℕ) → first_at n tests ≡ Some (Fault n k)))
 
 -- the tests of a header that must not be repeated
 abbrev pub once : Keyword → List Piece → List (Bool × TextKind) → List (Bool × TextKind)

@@ -2,7 +2,7 @@
 use Rattle.std.specs.Prelude.{IfErr, IfOk, None, Result, Some}
 use Rattle.tk_words.specs.declared.fault.TextKind.{TextKind}
 use Rattle.tk_lines.specs.Pieces.{Fault, first_at}
-use Rattle.tk_lines.specs.Reader.Forms.{whole}
+use Rattle.tk_lines.specs.Reader.Handlers.{whole}
 use Rattle.tk_problem_text.specs.Sections.Rows.{node_tests, number_in, is_among}
 use Rattle.std.specs.Prelude.{◌≡◌, ◌<◌, ◌+◌, ℕ, suc, Bool, false, List, [], ◌∷◌, ◌++◌, length, map}
 use Rattle.std.specs.List.{range_with_len}

@@ -10,9 +10,9 @@ use Rattle.tk_problem_text.specs.declared.sections.open_section.OpenSection.{Ope
 use Rattle.tk_problem_text.specs.declared.sections.open_section.OpenSection.TheVariants.{Nothing, Places, Explicit}
 use Rattle.tk_problem_text.specs.declared.sections.open_section.OpenSection.TheVariants.{Loads, Home, Display}
 use Rattle.tk_words.specs.Lex.{Token}
-use Rattle.tk_lines.specs.declared.form.Taken.{Taken}
+use Rattle.tk_lines.specs.declared.handler.Taken.{Taken}
 use Rattle.tk_lines.specs.Pieces.{Piece, After, Early, Fault, has, first_at}
-use Rattle.tk_lines.specs.Reader.Forms.{HasTakenToken, IsToldWord, StopsAt, a_section, whole}
+use Rattle.tk_lines.specs.Reader.Handlers.{HasTakenToken, IsReportedWord, StopsAt, a_section, whole}
 use Rattle.tk_problem_text.specs.Sections.Rows.{number_in}
 use Rattle.tk_problem_text.specs.Reader.FixedTokens.{HasTokens}
 use Rattle.tk_problem_text.specs.Sections.FixedSections.{tokens_stop}
@@ -98,7 +98,7 @@ TakesOpen token old new result =
 abbrev pub RefusesOpen : List ℕ → OpenSection → Result Taken TextKind → Type 0
 RefusesOpen token old result =
     (before : List Piece) (word : Keyword) (n : ℕ) (toks : List Token) (line : ℕ) → IsOpen before word n toks old
-    → IfErr result (IsToldWord (StopsAt problem_format before word n toks (whole token line)))
+    → IfErr result (IsReportedWord (StopsAt problem_format before word n toks (whole token line)))
 
 -- the text is allowed to end after the tokens of the section
 abbrev pub MayEnd : OpenSection → Type 0

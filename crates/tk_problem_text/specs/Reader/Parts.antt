@@ -2,7 +2,7 @@
 use Rattle.std.specs.Prelude.{◌++◌, map, slice_index, true}
 use Rattle.tk_words.specs.Lex.{Token}
 use Rattle.tk_lines.specs.Pieces.{After, Piece, has}
-use Rattle.tk_lines.specs.Reader.Forms.{a_section}
+use Rattle.tk_lines.specs.Reader.Handlers.{a_section}
 use Rattle.tk_problem_text.specs.Sections.Rows as Rows
 use Rattle.tk_problem_text.specs.Sections.Rows.{number_in, row_places}
 use Rattle.tk_problem_text.specs.Sections.WeightSection.{lower_weights}

@@ -4,7 +4,7 @@ use Rattle.std.specs.Prelude.{slice_index_or}
 use Rattle.tk_problem.specs.declared.limits.TheConstants.{DISTANCE_LIMIT}
 use Rattle.tk_words.specs.declared.fault.TextKind.{TextKind}
 use Rattle.tk_words.specs.declared.fault.TextKind.TheVariants as kinds
-use Rattle.tk_problem.specs.declared.place.Place.{Place}
+use Rattle.tk_problem.specs.declared.cell.Cell.{Cell}
 use Rattle.tk_problem.specs.declared.weights.Format.{Format}
 use Rattle.tk_problem.specs.declared.weights.Format.TheVariants.{FullMatrix}
 use Rattle.tk_words.specs.Lex.{Token, integer}
@@ -18,7 +18,7 @@ abbrev pub weight_count : ℕ → Format → ℕ
 weight_count n f = length (order f n)
 
 -- the cell of the entry after these tokens
-abbrev pub place_behind : ℕ → Format → List Token → Place
+abbrev pub place_behind : ℕ → Format → List Token → Cell
 place_behind n f before = slice_index_or (order f n) (length before) (place 0 0)
 
 abbrev pub weights_in : List Token → List ℕ

@@ -4,7 +4,7 @@ ghost use Rattle.tk_problem.specs.declared.limits.TheConstants.{CITY_LIMIT};
 ghost use Rattle.tk_words.specs.declared.keyword.Keyword.TheVariants as words;
 ghost use Rattle.tk_problem_text.specs.Reader.BegunSections as Begun;
 ghost use Rattle.tk_problem_text.specs.Reader.BegunSections.{IsReady, IsBegunSection};
-ghost use Rattle.tk_lines.specs.Reader.Forms.{IsToldWord};
+ghost use Rattle.tk_lines.specs.Reader.Handlers.{IsReportedWord};
 ghost use Rattle.tk_problem_text.specs.Reader.Parts.{HasParts};
 ghost use Rattle.tk_lines.specs.Pieces.{Piece, first_at, Fault};
 ghost use Rattle.tk_problem_text.specs.Problem.{size_of, is_known_section, is_explicit, listed_format, section_tests};
@@ -74,7 +74,7 @@ fn begin_known(
         → is_known_section word ≡ true → IfOk result (IsReady before word) }
     ensures err { (before : List Piece) (n : ℕ) → HasParts parts.now before
         → parts.now.headers.problem_type ≡ Some problem_type → size_of before ≡ size
-        → IfErr result (IsToldWord (λ k. first_at n (section_tests before word) ≡ Some (Fault n k))) }
+        → IfErr result (IsReportedWord (λ k. first_at n (section_tests before word) ≡ Some (Fault n k))) }
 {
     match word {
         Keyword::NodeCoordSection => begin_places(alloc, size),
@@ -96,7 +96,8 @@ fn begin_loads(alloc: Global, problem_type: ProblemType, size: u32) -> Result<Op
     ensures ok { (before : List Piece) → problem_type_in before ≡ Some problem_type → size_of before ≡ size
         → IfOk result (IsReady before words.DemandSection) }
     ensures err { (before : List Piece) (n : ℕ) → problem_type_in before ≡ Some problem_type → size_of before ≡ size
-        → IfErr result (IsToldWord (λ k. first_at n (section_tests before words.DemandSection) ≡ Some (Fault n k))) }
+        → IfErr result
+        (IsReportedWord (λ k. first_at n (section_tests before words.DemandSection) ≡ Some (Fault n k))) }
 {
     if problem_type == ProblemType::Tsp {
         return Err(TextKind::Unsupported);
@@ -111,7 +112,7 @@ fn begin_depot(problem_type: ProblemType, size: u32) -> Result<OpenSection, Text
     ensures ok { (before : List Piece) → problem_type_in before ≡ Some problem_type → size_of before ≡ size
         → IfOk result (IsReady before words.DepotSection) }
     ensures err { (before : List Piece) (n : ℕ) → problem_type_in before ≡ Some problem_type
-        → IfErr result (IsToldWord (λ k. first_at n (section_tests before words.DepotSection) ≡ Some (Fault n k))) }
+        → IfErr result (IsReportedWord (λ k. first_at n (section_tests before words.DepotSection) ≡ Some (Fault n k))) }
 {
     if problem_type == ProblemType::Tsp {
         return Err(TextKind::Unsupported);
@@ -123,7 +124,7 @@ fn begin_weights(alloc: Global, parts: &Parts, size: u32) -> Result<OpenSection,
     ensures ok { (before : List Piece) → HasParts parts.now before → size_of before ≡ size
         → IfOk result (IsReady before words.EdgeWeightSection) }
     ensures err { (before : List Piece) (n : ℕ) → HasParts parts.now before → size_of before ≡ size
-        → IfErr result (IsToldWord (λ k. first_at n (section_tests before words.EdgeWeightSection)
+        → IfErr result (IsReportedWord (λ k. first_at n (section_tests before words.EdgeWeightSection)
         ≡ Some (Fault n k))) }
 {
     let Some(weight_type) = parts.headers.weight_type else {

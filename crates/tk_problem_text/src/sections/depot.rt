@@ -4,7 +4,7 @@ ghost use Rattle.tk_problem_text.specs.Sections.DepotList.{depot_tests};
 ghost use Rattle.tk_problem_text.specs.Reader.DepotTaken.{HasDepot, DepotTakes, DepotRefuses};
 ghost use Rattle.tk_words.specs.Entry.{IsNumber};
 ghost use Rattle.tk_problem_text.specs.Sections.FixedSections.{all_tests};
-ghost use Rattle.tk_lines.specs.Reader.Forms.{whole, IsToldWord};
+ghost use Rattle.tk_lines.specs.Reader.Handlers.{whole, IsReportedWord};
 ghost use Rattle.tk_words.specs.Lex.{Token};
 ghost use Rattle.tk_lines.specs.Pieces.{first_at};
 ghost use Rattle.tk_problem_text.specs.Reader.DepotTaken.{RefusesDepot, TakesDepot};
@@ -54,7 +54,7 @@ fn first_node(token: &Lexeme, size: u32) -> Result<u32, TextKind>
     ensures node { IfOk result (IsNumber 1 size token.now) }
     ensures ok { (line : ℕ) → OnOk result (first_at line (all_tests (depot_tests size) [] (whole token.now line))
         ≡ None) }
-    ensures err { (line : ℕ) → IfErr result (IsToldWord (DepotRefuses size [] (whole token.now line))) }
+    ensures err { (line : ℕ) → IfErr result (IsReportedWord (DepotRefuses size [] (whole token.now line))) }
 {
     match token.entry() {
         Entry::Number(number) => match limited(number, 1, size) {
@@ -71,7 +71,7 @@ fn behind_node(token: &Lexeme) -> Result<Taken, TextKind>
     ensures ok { (n : ℕ) (depot : Depot) (node : Token) (line : ℕ)
         → IfOk result (DepotTakes n depot depot (node ∷ []) (whole token.now line)) }
     ensures err { (n : ℕ) (node : Token) (line : ℕ)
-        → IfErr result (IsToldWord (DepotRefuses n (node ∷ []) (whole token.now line))) }
+        → IfErr result (IsReportedWord (DepotRefuses n (node ∷ []) (whole token.now line))) }
 {
     match token.entry() {
         Entry::Number(number) => {

@@ -4,7 +4,7 @@ ghost use Rattle.std.specs.Prelude.{slice_get, nat_lt, ◌&&◌, IfOk, IfErr, If
 ghost use Rattle.tk_problem.specs.declared.limits.TheConstants.{DISTANCE_LIMIT, TABLE_LIMIT};
 ghost use Rattle.tk_problem.specs.declared.weights.Format.{Format};
 ghost use Rattle.tk_problem.specs.declared.weights.Weights.TheVariants as weights;
-ghost use Rattle.tk_lines.specs.Reader.Forms.{IsToldWord};
+ghost use Rattle.tk_lines.specs.Reader.Handlers.{IsReportedWord};
 ghost use Rattle.tk_words.specs.Lex.{Token, integer};
 ghost use Rattle.tk_lines.specs.Pieces.{first_at, Fault};
 ghost use Rattle.tk_problem.specs.WeightOrder.{weight_of, entries};
@@ -14,7 +14,7 @@ ghost use Rattle.tk_problem_text.specs.Reader.Weighing.{GivesLower};
 
 use std::alloc::Global;
 use tk_lines::Taken;
-use tk_problem::{DISTANCE_LIMIT, Format, LowerWeights, Place};
+use tk_problem::{Cell, DISTANCE_LIMIT, Format, LowerWeights};
 use tk_words::{Lexeme, TextKind, limited};
 
 /// EDGE_WEIGHT_SECTION: the weights of a format, stored as the lower triangle, row by row, without its diagonal.
@@ -74,7 +74,7 @@ impl ExplicitWeights {
             × HasWeights n f self.new (toks ++ t ∷ [])) }
         ensures err { (n : ℕ) (f : Format) (toks : List Token) (t : Token) → HasWeights n f self.old toks
             → integer t.bytes ≡ Some number
-            → IfErr result (IsToldWord (λ k. first_at t.line (weight_tests n f toks t) ≡ Some (Fault t.line k))) }
+            → IfErr result (IsReportedWord (λ k. first_at t.line (weight_tests n f toks t) ≡ Some (Fault t.line k))) }
         ensures kept { OnErr result (self.new ≡ self.old) }
     {
         if self.lower.place().is_diagonal() {
@@ -96,7 +96,7 @@ impl ExplicitWeights {
         ensures is { IfOk result (λ w. (number ≡ pos w) × (w ≤ DISTANCE_LIMIT)) }
         ensures err { (n : ℕ) (f : Format) (toks : List Token) (t : Token) → HasWeights n f self.now toks
             → integer t.bytes ≡ Some number
-            → IfErr result (IsToldWord (λ k. first_at t.line (weight_tests n f toks t) ≡ Some (Fault t.line k))) }
+            → IfErr result (IsReportedWord (λ k. first_at t.line (weight_tests n f toks t) ≡ Some (Fault t.line k))) }
     {
         let place = self.lower.place();
         let Some(weight) = limited(number, 0, DISTANCE_LIMIT) else {
@@ -109,7 +109,7 @@ impl ExplicitWeights {
     }
 
     /// A weight below the diagonal of a full matrix; `NotSymmetric` unless it equals the weight above the diagonal.
-    fn again(&self, place: Place, weight: u32) -> Result<u32, TextKind>
+    fn again(&self, place: Cell, weight: u32) -> Result<u32, TextKind>
         requires next { slice_get self.now.lower.places 0 ≡ Some place }
         requires below { place.column < place.row }
         ensures same { IfOk result (λ w. w ≡ weight) }
@@ -127,7 +127,7 @@ impl ExplicitWeights {
 
     /// Whether this cell of a full matrix repeats a pair that has been read.
     #[inline(always)]
-    fn repeats(&self, place: Place) -> bool
+    fn repeats(&self, place: Cell) -> bool
         ensures { result ≡ (is_full self.now.format && nat_lt place.column place.row) }
     {
         match self.format {

@@ -1,7 +1,7 @@
 //! The nodes that a section names, each once.
 ghost use Rattle.std.specs.Prelude.{◌≡◌, ◌<◌, ◌==◌, ℕ, suc, pos, List, [], Some, IfOk, OnErr, IfErr};
 ghost use Rattle.std.specs.Prelude.{length};
-ghost use Rattle.tk_lines.specs.Reader.Forms.{whole};
+ghost use Rattle.tk_lines.specs.Reader.Handlers.{whole};
 ghost use Rattle.tk_words.specs.Lex as Lex;
 ghost use Rattle.tk_problem_text.specs.Reader.Nodes.{HasNamed};
 ghost use Rattle.tk_lines.specs.Pieces.{first_at, Fault};

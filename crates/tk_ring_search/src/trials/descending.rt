@@ -1,14 +1,14 @@
 //! One descent of a search between routes.
 ghost use Rattle.std.specs.Prelude.{◌≡◌, pos, ◌≤◌, [], length, true, false};
 ghost use Rattle.tk_descent.specs.Descents.{AreOfSize, DescentUnder, IsReported, SweepingUnder, stand};
-ghost use Rattle.tk_descent.specs.Steps.{AreTrueOf};
+ghost use Rattle.tk_descent.specs.EdgeCache.{AreTrueOf};
 ghost use Rattle.tk_tour.specs.Tour.{IsTour, tour_length};
 ghost use Rattle.tk_rings.specs.Capacities.{IsFitting};
 ghost use Rattle.tk_ring_search.specs.Descents.{Fits, looks_at_first, may_be_made, terms_of};
 ghost use Rattle.tk_ring_search.specs.Given.{given_of};
 
 use crate::trials::terms::RingTerms;
-use tk_descent::{Probe, Steps, SweptReport, Waking, descend_swept_under, descend_under};
+use tk_descent::{EdgeCache, Probe, SweptReport, Waking, descend_swept_under, descend_under};
 use tk_distance::Metric;
 use tk_tour::TourStore;
 
@@ -18,7 +18,7 @@ pub(crate) fn descend<S: TourStore, M: Metric>(
     ring: &mut S,
     terms: &RingTerms<'_, M>,
     waking: &mut Waking,
-    steps: &mut Steps,
+    steps: &mut EdgeCache,
     before: i64,
 ) -> SweptReport
     requires sizes { AreOfSize (length (S.cities ring.old)) (M.size_of terms.now.metric.now) terms.now.near.now.size
@@ -44,7 +44,7 @@ pub(crate) fn descend<S: TourStore, M: Metric>(
     ensures steps { AreTrueOf (M.distance terms.now.metric.now) steps.new }
     ensures sizes { (length (S.cities ring.new) ≡ length (S.cities ring.old)) × (waking.new.size ≡ waking.old.size) }
 {
-    let mut gains = Probe::with_steps(terms.metric, steps.take());
+    let mut gains = Probe::with_cache(terms.metric, steps.take());
     let (rule, near, most) = (&terms.vehicles, terms.near, terms.or_segment);
     let report = if terms.sweep {
         descend_swept_under(ring, &mut gains, rule, near, waking, most, before)
@@ -54,6 +54,6 @@ pub(crate) fn descend<S: TourStore, M: Metric>(
             passes: 1,
         }
     };
-    *steps = gains.into_steps();
+    *steps = gains.into_cache();
     report
 }

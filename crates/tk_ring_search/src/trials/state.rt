@@ -23,7 +23,7 @@ use crate::trials::terms::RingTerms;
 use crate::trials::totals::{RingTotals, RingTrial};
 use rand_core::Rng;
 use std::alloc::{AllocError, Global};
-use tk_descent::{Report, Steps, SweptReport, Waking};
+use tk_descent::{EdgeCache, Report, SweptReport, Waking};
 use tk_distance::Metric;
 use tk_search::bridged_length;
 use tk_tour::{JournalTour, TourStore, UndoStore, length};
@@ -38,7 +38,7 @@ pub(crate) struct State<S: UndoStore> {
     pub(crate) ring: JournalTour<S>,
     pub(crate) best: Best,
     pub(crate) waking: Waking,
-    pub(crate) steps: Steps,
+    pub(crate) steps: EdgeCache,
     pub(crate) cost: i64,
     pub(crate) shortest: i64,
     pub(crate) totals: RingTotals,
@@ -68,7 +68,7 @@ impl<S: UndoStore> State<S> {
         let before = length(terms.metric, best.elements());
         let mut ring = JournalTour::new(alloc, ring, n + SPARE)?;
         let mut waking = Waking::new(alloc, n)?;
-        let mut steps = Steps::new(alloc, n)?;
+        let mut steps = EdgeCache::new(alloc, n)?;
         waking.wake_all();
         let report = descend(&mut ring, terms, &mut waking, &mut steps, before);
         best.take(ring.tour());

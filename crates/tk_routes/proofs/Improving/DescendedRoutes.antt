@@ -12,17 +12,17 @@ use Rattle.tk_tour.proofs.Lengths.{tour_length-limit}
 use Rattle.tk_tour.specs.ArrayTours.{FlipsAlone, order_of, flips_of, swaps_of}
 use Rattle.tk_tour.specs.declared.stores.array.ArrayTour.{ArrayTour}
 use Rattle.tk_descent.specs.Awake.{one_to}
-use Rattle.tk_descent.specs.Machine.{Run}
+use Rattle.tk_descent.specs.Machine.{Execution}
 use Rattle.tk_descent.specs.Sweeps.{Pass}
-use Rattle.tk_descent.proofs.WakeRuns.Passes.{pass_of}
-use Rattle.tk_descent.proofs.WakeRuns.Woken.{one_to-length}
+use Rattle.tk_descent.proofs.WakeExecutions.Passes.{pass_of}
+use Rattle.tk_descent.proofs.WakeExecutions.WokenQueue.{one_to-length}
 use Rattle.tk_routes.specs.Instance.{Instance}
 use Rattle.tk_routes.specs.Routes.{route_nodes}
 use Rattle.tk_routes.specs.ImprovedRoutes.{IsImproved, IsFlipped, IsReadOff, place_distance}
 
 -- a descent from the tour 1 to n with all cities awake
 pub Pass-from : (d e : ℕ → ℕ → ℕ) (near : ℕ → List ℕ) (m n : ℕ) (C T Q : List ℕ) (looks moves tests : ℕ) → e ≡ d →
-    C ≡ one_to n → Q ≡ one_to n → Run e near m C Q T [] looks moves tests →
+    C ≡ one_to n → Q ≡ one_to n → Execution e near m C Q T [] looks moves tests →
     Pass d near m (one_to n) T looks moves tests
 Pass-from d e near m n C T Q looks moves tests table start queue run =
     let all : Q ≡ one_to (length C) = queue ∙ ap one_to (sym (ap length start ∙ one_to-length n)) in

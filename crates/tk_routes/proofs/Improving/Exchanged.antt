@@ -16,7 +16,7 @@ use Rattle.tk_routes.specs.Instance.{Instance, customer_count, demand_of}
 use Rattle.tk_routes.specs.Routes.{AreRoutes, IsLight, route_load, route_length, routes_cost}
 use Rattle.tk_routes.specs.RouteVerdicts.{AreServedOnce}
 use Rattle.tk_routes.proofs.CutLists.{All-front, All-back}
-use Rattle.tk_routes.proofs.Served.{AreServedOnce-part, AreServedOnce-short}
+use Rattle.tk_routes.proofs.ServedCustomers.{AreServedOnce-part, AreServedOnce-short}
 
 occurrences-permutation : (c : ℕ) (xs ys : List ℕ) → IsPermutation xs ys → occurrences c ys ≡ occurrences c xs
 unfolding occurrences

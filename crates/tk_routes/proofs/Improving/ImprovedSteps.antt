@@ -8,14 +8,14 @@ use Rattle.std.proofs.lemmas.List.Folds.{concat-append}
 use Rattle.tk_problem.specs.declared.limits.TheConstants.{CANDIDATE_LIMIT, DISTANCE_LIMIT, TABLE_LIMIT}
 use Rattle.tk_distance.specs.Cities.{IsCity}
 use Rattle.tk_descent.specs.declared.descent.Report.{Report}
-use Rattle.tk_descent.proofs.WakeRuns.DescentSteps.{saved_is}
+use Rattle.tk_descent.proofs.WakeExecutions.DescentSteps.{saved_is}
 use Rattle.tk_routes.specs.Instance.{Instance, customer_count}
 use Rattle.tk_routes.specs.Routes.{AreRoutes, route_length, routes_cost}
 use Rattle.tk_routes.specs.ImprovedRoutes.{IsImprovement, AreImproved, AreImprovements, IsImprovedPart}
 use Rattle.tk_routes.specs.ImprovedRoutes.{MovesSave, fall_of, most_tests, place_count}
 use Rattle.tk_routes.specs.declared.solving.route_report.RouteReport.{RouteReport}
 use Rattle.tk_routes.specs.ImprovedRoutes.AreImproved.{none, more}
-use Rattle.tk_routes.proofs.Costs.{routes_cost-limit}
+use Rattle.tk_routes.proofs.RouteCosts.{routes_cost-limit}
 use Rattle.tk_routes.proofs.CutLists.{All-front}
 use Rattle.tk_routes.proofs.Improving.Exchanged.{AreRoutes-exchanged, routes_cost-at, route_known, few_routes}
 

@@ -11,7 +11,7 @@ use Rattle.tk_distance.specs.Cities.{IsCity}
 use Rattle.tk_starts.specs.PathEnds.{load_of}
 use Rattle.tk_starts.specs.SavingsMerges.{AreLight, AreSavingsLists}
 use Rattle.tk_tour.specs.Tour.{IsTour, occurrences}
-use Rattle.tk_tour.proofs.Once.{occurrences-append}
+use Rattle.tk_tour.proofs.DistinctCycles.{occurrences-append}
 use Rattle.tk_routes.specs.Instance.{Instance, customer_count, node_of, customer_of}
 use Rattle.tk_routes.specs.Routes.{AreRoutes, IsLight, route_load}
 use Rattle.tk_routes.specs.SavingsRoutes.{AreSavingsRoutes}

@@ -9,7 +9,7 @@ use Rattle.std.proofs.lemmas.List.Sums.{sum_by-cons}
 use Rattle.tk_distance.specs.Cities.{IsCity}
 use Rattle.tk_starts.specs.PathEnds.{load_of}
 use Rattle.tk_tour.specs.Tour.{IsTour, occurrences}
-use Rattle.tk_tour.proofs.Once.{occurrences-append}
+use Rattle.tk_tour.proofs.DistinctCycles.{occurrences-append}
 use Rattle.tk_tour.proofs.Tours.{occurrences-nil, occurrences-same, occurrences-other}
 use Rattle.tk_routes.specs.Instance.{Instance, node_of, customer_of, demand_of}
 

@@ -10,7 +10,7 @@ use Rattle.std.proofs.lemmas.List.{reverse-reverse, take_all}
 use Rattle.tk_distance.specs.Cities.{city_at}
 use Rattle.tk_tour.specs.Tour.{IsTour, IsRotation, SameCycle, tour_length}
 use Rattle.tk_tour.proofs.Cycle.{IsRotation-refl}
-use Rattle.tk_tour.proofs.Once.{occurrences-append}
+use Rattle.tk_tour.proofs.DistinctCycles.{occurrences-append}
 use Rattle.tk_tour.proofs.Tours.{occurrences-same, occurrences-outside, inside_or_not}
 use Rattle.tk_descent.specs.Awake.{one_to}
 use Rattle.tk_descent.proofs.MovesOnTours.Length.{length-cycle}

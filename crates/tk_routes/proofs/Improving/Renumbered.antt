@@ -10,12 +10,12 @@ use Rattle.std.proofs.lemmas.List.Sorted.{IsPermutation-refl, IsPermutation-sym,
 use Rattle.std.proofs.lemmas.List.Sorted.{IsPermutation-middle, IsPermutation-push_more}
 use Rattle.tk_distance.specs.Cities.{IsCity, city_at}
 use Rattle.tk_tour.specs.Tour.{IsTour, occurrences, walk, tour_length}
-use Rattle.tk_tour.proofs.Once.{occurrences-append}
+use Rattle.tk_tour.proofs.DistinctCycles.{occurrences-append}
 use Rattle.tk_tour.proofs.Tours.{occurrences-nil, occurrences-other, place_found, city_in_range}
 use Rattle.tk_descent.specs.Awake.{one_to}
-use Rattle.tk_descent.proofs.WakeRuns.Woken.{one_to-length}
+use Rattle.tk_descent.proofs.WakeExecutions.WokenQueue.{one_to-length}
 use Rattle.tk_routes.proofs.CutLists.{cut_at}
-use Rattle.tk_routes.proofs.Served.{occurrences-pass, occurrences-push}
+use Rattle.tk_routes.proofs.ServedCustomers.{occurrences-pass, occurrences-push}
 
 -- the cities 1 to n as a tour
 one_to-above : (n c : ℕ) → n < c → occurrences c (one_to n) ≡ 0

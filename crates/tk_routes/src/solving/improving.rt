@@ -8,7 +8,7 @@ ghost use Rattle.tk_routes.specs.RouteLists.{instance_of_routes, routes_of};
 ghost use Rattle.tk_routes.specs.ImprovedRoutes.{AreImprovements, IsImprovedPart, fall_of, most_tests};
 ghost use Rattle.tk_routes.specs.ImprovedRoutes.{place_count};
 
-use crate::claims::check::cost_of;
+use crate::checking::check::cost_of;
 use crate::cvrp::Cvrp;
 use crate::routes::Routes;
 use crate::solving::one_route::improve_route;

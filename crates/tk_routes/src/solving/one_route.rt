@@ -13,7 +13,7 @@ ghost use Rattle.tk_routes.specs.Routes.{route_nodes};
 ghost use Rattle.tk_routes.specs.ImprovedRoutes.{IsFlipped, IsImprovement, IsReadOff, place_distance};
 
 use crate::cvrp::Cvrp;
-use crate::solving::measured::Measured;
+use crate::solving::distance_matrix::DistanceMatrix;
 use std::alloc::{AllocError, Global};
 use tk_descent::{Probe, Report, Waking, descend};
 use tk_distance::{Metric, Sub};
@@ -160,6 +160,6 @@ pub(crate) fn improve_route(
     if nodes.len() > MOST_MEASURED {
         return improve_over(alloc, cvrp, &metric, route, max_candidates, m);
     }
-    let measured = Measured::of(alloc, &metric)?;
+    let measured = DistanceMatrix::of(alloc, &metric)?;
     improve_over(alloc, cvrp, &measured, route, max_candidates, m)
 }

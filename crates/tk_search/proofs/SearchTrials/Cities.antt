@@ -3,10 +3,10 @@ use Rattle.std.proofs.Common.{◌≡◌, ℕ, Bool, true, false, List, ◌++◌,
 use Rattle.std.proofs.lemmas.List.{length-append}
 use Rattle.rand_core.specs.Stream.{Stream}
 use Rattle.tk_tour.specs.Tour.{IsTour}
-use Rattle.tk_tour.proofs.Once.{occurrences-append}
+use Rattle.tk_tour.proofs.DistinctCycles.{occurrences-append}
 use Rattle.tk_descent.proofs.MovesOnTours.Cities.{made_cities}
 use Rattle.tk_descent.proofs.MovesOnTours.Steps.{HasSameCities, cities-cycle}
-use Rattle.tk_descent.specs.Machine.{Run, start, asleep, move}
+use Rattle.tk_descent.specs.Machine.{Execution, start, asleep, move}
 use Rattle.tk_descent.specs.Sweeps.{Moving, pass, start as unmoved, Sweeps}
 use Rattle.tk_search.specs.Cuts.{AreCuts, bridged, part_a, part_b, part_c, part_d}
 use Rattle.tk_search.specs.Descents.{Descends}
@@ -27,7 +27,8 @@ cities-sym : (xs ys : List ℕ) → HasSameCities xs ys → HasSameCities ys xs
 cities-sym xs ys h = (sym h.0, λ c. sym (h.1 c))
 
 module _ (dist : ℕ → ℕ → ℕ) (near : ℕ → List ℕ) (m : ℕ) (T W : List ℕ) where
-  cities_run : {C V : List ℕ} {looks moves tests : ℕ} → Run dist near m T W C V looks moves tests → HasSameCities T C
+  cities_run : {C V : List ℕ} {looks moves tests : ℕ} → Execution dist near m T W C V looks moves tests →
+      HasSameCities T C
   cities_run start = cities-refl T
   cities_run (asleep r e) = cities_run r
   cities_run (move {C = C} {D = D} {o = o} r e made) = cities-trans T C D (cities_run r) (made_cities m o C D made)

@@ -11,7 +11,7 @@ use Rattle.tk_tour.specs.declared.store.TourStore.{Ghosts}
 use Rattle.tk_tour.specs.declared.undo.UndoStore as undo
 use Rattle.tk_distance.specs.Cities.{city_at}
 use Rattle.tk_descent.specs.Awake.{woken_each}
-use Rattle.tk_descent.specs.Steps.{AreTrueOf}
+use Rattle.tk_descent.specs.EdgeCache.{AreTrueOf}
 use Rattle.tk_descent.proofs.OfferLists.Count.{woken_each-le}
 use Rattle.tk_search.specs.Best.{best_of}
 use Rattle.tk_search.specs.Cuts.{end_places}

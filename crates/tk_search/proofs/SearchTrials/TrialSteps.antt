@@ -4,7 +4,7 @@ use Rattle.std.proofs.Common.{arith}
 use Rattle.std.specs.Prelude.{ℤ, pos, ◌-ℤ◌, ◌↔◌, IsTrue}
 use Rattle.std.specs.Int.RustNames.{unsigned_abs}
 use Rattle.std.proofs.lemmas.Int.{to_z-of_z, ints}
-use Rattle.tk_descent.proofs.WakeRuns.DescentSteps.{saved_is}
+use Rattle.tk_descent.proofs.WakeExecutions.DescentSteps.{saved_is}
 use Rattle.tk_search.specs.Totals.{AddsTrial}
 use Rattle.tk_search.specs.declared.trials.totals.Totals.{Totals}
 use Rattle.tk_search.specs.declared.trials.totals.TrialReport.{TrialReport}

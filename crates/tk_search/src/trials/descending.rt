@@ -2,11 +2,11 @@
 ghost use Rattle.std.specs.Prelude.{◌≡◌, pos, ◌+◌, ◌≤◌, [], length};
 ghost use Rattle.tk_near.specs.Near.{near_of};
 ghost use Rattle.tk_descent.specs.Descents.{AreOfSize, IsReported, stand};
-ghost use Rattle.tk_descent.specs.Steps.{AreTrueOf};
+ghost use Rattle.tk_descent.specs.EdgeCache.{AreTrueOf};
 ghost use Rattle.tk_tour.specs.Tour.{tour_length};
 ghost use Rattle.tk_search.specs.Descents.{Descends, looks_at_first, terms};
 
-use tk_descent::{Probe, Steps, SweptReport, Waking, descend, descend_swept};
+use tk_descent::{EdgeCache, Probe, SweptReport, Waking, descend, descend_swept};
 use tk_distance::Metric;
 use tk_near::Near;
 use tk_tour::TourStore;
@@ -27,7 +27,7 @@ pub(crate) fn descend_by<S: TourStore, M: Metric>(
     metric: &M,
     near: &Near,
     waking: &mut Waking,
-    steps: &mut Steps,
+    steps: &mut EdgeCache,
     rules: SearchRules,
     before: i64,
 ) -> SweptReport
@@ -46,7 +46,7 @@ pub(crate) fn descend_by<S: TourStore, M: Metric>(
     ensures steps { AreTrueOf (M.distance metric.now) steps.new }
     ensures sizes { (length (S.cities store.new) ≡ length (S.cities store.old)) × (waking.new.size ≡ waking.old.size) }
 {
-    let mut gains = Probe::with_steps(metric, steps.take());
+    let mut gains = Probe::with_cache(metric, steps.take());
     let report = if rules.sweep {
         descend_swept(store, &mut gains, near, waking, rules.or_segment, before)
     } else {
@@ -55,6 +55,6 @@ pub(crate) fn descend_by<S: TourStore, M: Metric>(
             passes: 1,
         }
     };
-    *steps = gains.into_steps();
+    *steps = gains.into_cache();
     report
 }

@@ -3,10 +3,10 @@ ghost use Rattle.std.specs.Prelude.{◌≡◌, ◌≤◌, IfOk, length, pos, fal
 ghost use Rattle.tk_tour.specs.ArrayTours.{order_of};
 ghost use Rattle.tk_tour.specs.Tour.{tour_length};
 ghost use Rattle.tk_search.specs.Searching.{IsBegun, IsBoundedSearch, NextTrial};
-ghost use Rattle.tk_search.specs.Standing.{IsStanding, IsStanding-prop};
+ghost use Rattle.tk_search.specs.Standing.{IsValidState, IsValidState-prop};
 
+use crate::trials::any_state::AnyState;
 use crate::trials::descending::SearchRules;
-use crate::trials::stand::Stand;
 use crate::trials::totals::{Totals, TrialReport};
 use rand_core::Rng;
 use std::alloc::{AllocError, Global};
@@ -21,9 +21,9 @@ pub struct Search<'a, M: Metric> {
     metric: &'a M,
     near: &'a Near,
     rules: SearchRules,
-    stand: Stand,
-    ghost holds: { IsStanding (M.size_of metric.now) (M.distance metric.now) near.now rules
-        stand } by { IsStanding-prop _ _ _ _ _ },
+    stand: AnyState,
+    ghost holds: { IsValidState (M.size_of metric.now) (M.distance metric.now) near.now rules
+        stand } by { IsValidState-prop _ _ _ _ _ },
 }
 
 impl<'a, M: Metric> Search<'a, M> {
@@ -49,7 +49,7 @@ impl<'a, M: Metric> Search<'a, M> {
             metric,
             near,
             rules,
-            stand: Stand::new(alloc, metric, near, start, rules)?,
+            stand: AnyState::new(alloc, metric, near, start, rules)?,
         })
     }
 
@@ -60,8 +60,8 @@ impl<'a, M: Metric> Search<'a, M> {
         ensures undrawn { result.kicked ≡ false → rng.new ≡ rng.old }
     {
         match &mut self.stand {
-            Stand::Array(state) => state.trial(self.metric, self.near, self.rules, rng),
-            Stand::Segments(state) => state.trial(self.metric, self.near, self.rules, rng),
+            AnyState::Array(state) => state.trial(self.metric, self.near, self.rules, rng),
+            AnyState::Segments(state) => state.trial(self.metric, self.near, self.rules, rng),
         }
     }
 
@@ -70,8 +70,8 @@ impl<'a, M: Metric> Search<'a, M> {
         ensures { result.now ≡ (search_of self.now).best }
     {
         match &self.stand {
-            Stand::Array(state) => state.best.cities(),
-            Stand::Segments(state) => state.best.cities(),
+            AnyState::Array(state) => state.best.cities(),
+            AnyState::Segments(state) => state.best.cities(),
         }
     }
 
@@ -80,8 +80,8 @@ impl<'a, M: Metric> Search<'a, M> {
         ensures { result ≡ pos (tour_length (search_of self.now).distance (search_of self.now).best) }
     {
         match &self.stand {
-            Stand::Array(state) => state.shortest,
-            Stand::Segments(state) => state.shortest,
+            AnyState::Array(state) => state.shortest,
+            AnyState::Segments(state) => state.shortest,
         }
     }
 
@@ -91,8 +91,8 @@ impl<'a, M: Metric> Search<'a, M> {
         ensures bounded { IsBoundedSearch (search_of self.now) }
     {
         match &self.stand {
-            Stand::Array(state) => state.totals,
-            Stand::Segments(state) => state.totals,
+            AnyState::Array(state) => state.totals,
+            AnyState::Segments(state) => state.totals,
         }
     }
 }

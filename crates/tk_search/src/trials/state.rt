@@ -2,7 +2,7 @@
 ghost use Rattle.std.specs.Prelude.{◌≡◌, pos, ◌+◌, ◌-◌, ◌^◌, ◌<◌, ◌≤◌, IfOk, [], length, true, false, All};
 ghost use Rattle.tk_distance.specs.Cities.{IsCity};
 ghost use Rattle.tk_descent.specs.Awake.{one_to, woken_each};
-ghost use Rattle.tk_descent.specs.Steps.{AreTrueOf};
+ghost use Rattle.tk_descent.specs.EdgeCache.{AreTrueOf};
 ghost use Rattle.tk_near.specs.Near.{near_of};
 ghost use Rattle.tk_tour.specs.Tour.{tour_length};
 ghost use Rattle.tk_tour.specs.Counters.{saturated};
@@ -23,7 +23,7 @@ use crate::trials::keeping::keep_better;
 use crate::trials::totals::{Totals, TrialReport};
 use rand_core::Rng;
 use std::alloc::{AllocError, Global};
-use tk_descent::{Report, Steps, SweptReport, Waking};
+use tk_descent::{EdgeCache, Report, SweptReport, Waking};
 use tk_distance::Metric;
 use tk_near::Near;
 use tk_tour::{JournalTour, TourStore, UndoStore, length};
@@ -71,7 +71,7 @@ pub(crate) struct State<S: UndoStore> {
     pub(crate) tour: JournalTour<S>,
     pub(crate) best: Best,
     pub(crate) waking: Waking,
-    pub(crate) steps: Steps,
+    pub(crate) steps: EdgeCache,
     pub(crate) shortest: i64,
     pub(crate) totals: Totals,
 }
@@ -101,7 +101,7 @@ impl<S: UndoStore> State<S> {
             tour: JournalTour::new(alloc, tour, n)?,
             best,
             waking: Waking::new(alloc, n)?,
-            steps: Steps::new(alloc, n)?,
+            steps: EdgeCache::new(alloc, n)?,
             shortest,
             totals: Totals::new(shortest),
         })

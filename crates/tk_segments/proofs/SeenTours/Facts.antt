@@ -5,7 +5,7 @@ use Rattle.std.proofs.lemmas.Bool.{cases_lt}
 use Rattle.tk_distance.specs.Cities.{IsCity}
 use Rattle.tk_tour.specs.Places.{IsPlaceFrom}
 use Rattle.tk_tour.specs.Reversal.{begun_at, reversed_places}
-use Rattle.tk_segments.specs.Runs.{shown, AreLaidOut, IsSpot, IsAfterPlace}
+use Rattle.tk_segments.specs.Segments.{shown, AreLaidOut, IsSpot, IsAfterPlace}
 use Rattle.tk_segments.specs.SeenTours.{SeesAt, list_of}
 use Rattle.tk_tour.specs.Tour.{IsTour, IsSizedTour, next_city, prev_city}
 use Rattle.tk_segments.specs.declared.seen.SeenTour.{SeenTour}
@@ -22,22 +22,22 @@ use Rattle.tk_segments.proofs.SeenTours.Turning.{within_of, length-shown-sum}
 
 -- the sequence
 abbrev pub seen_of : SeenTour → List ℕ
-seen_of s = shown s.order.items s.runs.runs.items
+seen_of s = shown s.order.items s.segments.segments.items
 
 pub record Facts (s : SeenTour) : Type 0 where
-  pub laid : AreLaidOut s.runs.size s.runs.runs.items
-  pub small : (2 ≤ s.runs.size) × (s.runs.size ≤ 100000)
-  pub order : length s.order.items ≡ s.runs.size
-  pub seen : length (seen_of s) ≡ s.runs.size
-  pub list : length (list_of s) ≡ s.runs.size
-  pub tour : IsTour s.runs.size (seen_of s)
+  pub laid : AreLaidOut s.segments.size s.segments.segments.items
+  pub small : (2 ≤ s.segments.size) × (s.segments.size ≤ 100000)
+  pub order : length s.order.items ≡ s.segments.size
+  pub seen : length (seen_of s) ≡ s.segments.size
+  pub list : length (list_of s) ≡ s.segments.size
+  pub tour : IsTour s.segments.size (seen_of s)
 
 pub facts : (s : SeenTour) → Facts s
 facts s =
-    let n : ℕ = s.runs.size in
-    let laid = s.runs.laid in
+    let n : ℕ = s.segments.size in
+    let laid = s.segments.laid in
     let l1 : length (seen_of s) ≡ n =
-    length-shown-sum n s.order.items s.runs.runs.items (within_of n s.runs.runs.items laid.within)
+    length-shown-sum n s.order.items s.segments.segments.items (within_of n s.segments.segments.items laid.within)
     (omega (arith, s.sizes)) ∙ laid.whole in
     let l2 : length (list_of s) ≡ n = length-begun_at s.begin (seen_of s) ∙ l1 in
     let P : ℕ → Type 0 = λ u. IsTour u (list_of s) in
@@ -52,7 +52,7 @@ facts s =
 
 -- the array position of a city
 pub city_stands : (s : SeenTour) (c : ℕ) → IsCity (length (list_of s)) c →
-    (c - 1 < length s.place.items) × (get_or s.place.items (c - 1) 0 < s.runs.size)
+    (c - 1 < length s.place.items) × (get_or s.place.items (c - 1) 0 < s.segments.size)
     × (get_or s.order.items (get_or s.place.items (c - 1) 0) 0 ≡ c)
 city_stands s c h =
     let f = facts s in
@@ -61,11 +61,11 @@ city_stands s c h =
     (omega (arith, h, f.list, f.order, s.inverse.0), omega (arith, a.0, f.order), a.1)
 
 -- the entry at a spot
-pub spot_is : (s : SeenTour) (v : ℕ) (spot : Spot) → IsSpot s.runs.runs.items v spot →
-    (spot.place < s.runs.size) × (get_or (seen_of s) v 0 ≡ get_or s.order.items spot.place 0)
+pub spot_is : (s : SeenTour) (v : ℕ) (spot : Spot) → IsSpot s.segments.segments.items v spot →
+    (spot.place < s.segments.size) × (get_or (seen_of s) v 0 ≡ get_or s.order.items spot.place 0)
 spot_is s v spot h =
     let f = facts s in
-    let k = spot_seen s.runs.size v s.runs.runs.items spot f.laid h in
+    let k = spot_seen s.segments.size v s.segments.segments.items spot f.laid h in
     (k.0, k.1 s.order.items (omega (arith, f.order)))
 
 pub sized_tour : (n : ℕ) (list : List ℕ) → 2 ≤ n → n ≤ 100000 → IsTour n list → IsSizedTour list
@@ -75,55 +75,60 @@ sized_tour n list two small tour =
 
 -- the city at a spot
 pub city_of_spot : (s : SeenTour) (c p v : ℕ) (spot : Spot) → IsCity (length (list_of s)) c →
-    p ≡ get_or s.place.items (c - 1) 0 → IsSpot s.runs.runs.items v spot → spot.place ≡ p → get_or (seen_of s) v 0 ≡ c
+    p ≡ get_or s.place.items (c - 1) 0 → IsSpot s.segments.segments.items v spot → spot.place ≡ p → get_or (seen_of s) v
+    0 ≡ c
 city_of_spot s c p v spot h ep is es =
     (spot_is s v spot is).1 ∙ ap (λ u. get_or s.order.items u 0) (es ∙ ep) ∙ (city_stands s c h).2
 
 -- the spot of a city, and below those of its successor and its predecessor
 pub seen_at : (s : SeenTour) (c p v : ℕ) (spot : Spot) → IsCity (length (list_of s)) c →
-    p ≡ get_or s.place.items (c - 1) 0 → IsSpot s.runs.runs.items v spot → spot.place ≡ p → v < s.runs.size →
+    p ≡ get_or s.place.items (c - 1) 0 → IsSpot s.segments.segments.items v spot → spot.place ≡ p → v < s.segments.size
+    →
     SeesAt s c spot
 seen_at s c p v spot h ep is es lv =
     record { place = v; inside = lv; is = is; shows = city_of_spot s c p v spot h ep is es }
 
 pub record Steps (s : SeenTour) (step : List ℕ → ℕ → ℕ) (c : ℕ) (there : Spot) : Type 0 where
-  pub in_array : there.place < s.runs.size
+  pub in_array : there.place < s.segments.size
   pub sees : SeesAt s (get_or s.order.items there.place 0) there
   pub city : get_or s.order.items there.place 0 ≡ step (list_of s) c
 
 pub step_after : (s : SeenTour) (c : ℕ) (spot after : Spot) → SeesAt s c spot →
-    ((v w : ℕ) → IsSpot s.runs.runs.items v spot → IsAfterPlace s.runs.size v w → IsSpot s.runs.runs.items w after) →
+    ((v w : ℕ) → IsSpot s.segments.segments.items v spot → IsAfterPlace s.segments.size v w → IsSpot
+    s.segments.segments.items w after) →
     Steps s next_city c after
 step_after s c spot after at step =
     let f = facts s in
-    let a = after_place s.runs.size at.place at.inside in
+    let a = after_place s.segments.size at.place at.inside in
     let is = step at.place a.w at.is a.after in
     let there = spot_is s a.w after is in
-    let lw : a.w < s.runs.size =
-    ⊎_elim (λ (h : (at.place + 1 < s.runs.size) × (a.w ≡ at.place + 1)). omega (arith, h))
-    (λ (h : (at.place + 1 ≡ s.runs.size) × (a.w ≡ 0)). omega (arith, h)) a.after in
+    let lw : a.w < s.segments.size =
+    ⊎_elim (λ (h : (at.place + 1 < s.segments.size) × (a.w ≡ at.place + 1)). omega (arith, h))
+    (λ (h : (at.place + 1 ≡ s.segments.size) × (a.w ≡ 0)). omega (arith, h)) a.after in
     record {
       in_array = there.0;
       sees = record { place = a.w; inside = lw; is = is; shows = there.1 };
-      city = next_begun s.runs.size s.begin at.place a.w c _ (seen_of s) f.tour s.begins at.inside a.after at.shows
+      city = next_begun s.segments.size s.begin at.place a.w c _ (seen_of s) f.tour s.begins at.inside a.after at.shows
           (sym there.1);
     }
 
 pub step_before : (s : SeenTour) (c : ℕ) (spot before : Spot) → SeesAt s c spot →
-    ((v w : ℕ) → IsSpot s.runs.runs.items w spot → IsAfterPlace s.runs.size v w → IsSpot s.runs.runs.items v before) →
+    ((v w : ℕ) → IsSpot s.segments.segments.items w spot → IsAfterPlace s.segments.size v w → IsSpot
+    s.segments.segments.items v before) →
     Steps s prev_city c before
 step_before s c spot before at step =
     let f = facts s in
-    let b = before_place s.runs.size at.place at.inside in
+    let b = before_place s.segments.size at.place at.inside in
     let is = step b.v at.place at.is b.after in
     let there = spot_is s b.v before is in
-    let lv : b.v < s.runs.size =
-    ⊎_elim (λ (h : (b.v + 1 < s.runs.size) × (at.place ≡ b.v + 1)). omega (arith, h))
-    (λ (h : (b.v + 1 ≡ s.runs.size) × (at.place ≡ 0)). omega (arith, h)) b.after in
+    let lv : b.v < s.segments.size =
+    ⊎_elim (λ (h : (b.v + 1 < s.segments.size) × (at.place ≡ b.v + 1)). omega (arith, h))
+    (λ (h : (b.v + 1 ≡ s.segments.size) × (at.place ≡ 0)). omega (arith, h)) b.after in
     record {
       in_array = there.0;
       sees = record { place = b.v; inside = lv; is = is; shows = there.1 };
-      city = prev_begun s.runs.size s.begin b.v at.place c _ (seen_of s) f.tour s.begins lv at.inside b.after at.shows
+      city = prev_begun s.segments.size s.begin b.v at.place c _ (seen_of s) f.tour s.begins lv at.inside b.after
+          at.shows
           (sym there.1);
     }
 
@@ -132,7 +137,7 @@ pub reversed_tour : (s : SeenTour) (b first count : ℕ) (seen : List ℕ) →
     seen ≡ reversed_places first count (seen_of s) → IsSizedTour (begun_at b seen)
 reversed_tour s b first count seen e =
     let f = facts s in
-    let n : ℕ = s.runs.size in
+    let n : ℕ = s.segments.size in
     let P : List ℕ → Type 0 = λ u. IsTour n u in
     sized_tour n (begun_at b seen) f.small.0 f.small.1
     (tour_begun n b seen (subst P (sym e) (IsTour-reversed_places n first count (seen_of s) f.tour)))
@@ -141,7 +146,7 @@ pub reversed_round_tour : (s : SeenTour) (b e first count : ℕ) (seen : List �
     seen ≡ reversed_places first count (begun_at e (seen_of s)) → IsSizedTour (begun_at b seen)
 reversed_round_tour s b e first count seen h =
     let f = facts s in
-    let n : ℕ = s.runs.size in
+    let n : ℕ = s.segments.size in
     let P : List ℕ → Type 0 = λ u. IsTour n u in
     sized_tour n (begun_at b seen) f.small.0 f.small.1
     (tour_begun n b seen
@@ -150,8 +155,8 @@ reversed_round_tour s b e first count seen h =
 
 -- the list after a reversal that does not go past the end, and below after one that does
 pub reversed_list : (s : SeenTour) (k first count : ℕ) (seen : List ℕ) →
-    seen ≡ reversed_places first count (seen_of s) → k < length (list_of s) → first < s.runs.size →
-    count ≤ s.runs.size →
+    seen ≡ reversed_places first count (seen_of s) → k < length (list_of s) → first < s.segments.size →
+    count ≤ s.segments.size →
     IsPlaceFrom (length (list_of s)) s.begin k first → begun_at s.begin seen ≡ reversed_places k count (list_of s)
 reversed_list s k first count seen e lk lf lc h =
     let f = facts s in
@@ -161,14 +166,15 @@ reversed_list s k first count seen e lk lf lc h =
     (subst P (f.list ∙ sym f.seen) h) e
 
 pub reversed_round_list : (s : SeenTour) (b k first count e : ℕ) (seen : List ℕ) →
-    seen ≡ reversed_places (first - e) count (begun_at e (seen_of s)) → k < length (list_of s) → first < s.runs.size →
-    count ≤ s.runs.size →
-    b < s.runs.size → e ≤ first → ((e ≤ s.begin) × (b ≡ s.begin - e))
-    ⊎ ((s.begin < e) × (b ≡ s.begin + s.runs.size - e)) →
+    seen ≡ reversed_places (first - e) count (begun_at e (seen_of s)) → k < length (list_of s) → first < s.segments.size
+    →
+    count ≤ s.segments.size →
+    b < s.segments.size → e ≤ first → ((e ≤ s.begin) × (b ≡ s.begin - e))
+    ⊎ ((s.begin < e) × (b ≡ s.begin + s.segments.size - e)) →
     IsPlaceFrom (length (list_of s)) s.begin k first → begun_at b seen ≡ reversed_places k count (list_of s)
 reversed_round_list s b k first count e seen h lk lf lc lb le begin at =
     let f = facts s in
-    let n : ℕ = s.runs.size in
+    let n : ℕ = s.segments.size in
     let P : ℕ → Type 0 = λ u. AtPlace u s.begin k first in
     let Q : ℕ → Type 0 = λ u. AtPlace u e b s.begin in
     let moved : AtPlace n e b s.begin = at_place n e b s.begin
@@ -182,12 +188,12 @@ reversed_round_list s b k first count e seen h lk lf lc lb le begin at =
     (omega (arith, f.seen, le, lf)) le (subst P (f.list ∙ sym f.seen) at) (subst Q (sym f.seen) moved) refl h
 
 -- the list after the segments are rotated
-pub begun_list : (s : SeenTour) (b v : ℕ) (seen : List ℕ) → seen ≡ begun_at v (seen_of s) → v < s.runs.size →
-    ((v ≤ s.begin) × (b ≡ s.begin - v)) ⊎ ((s.begin < v) × (b ≡ s.begin + s.runs.size - v)) →
-    (begun_at b seen ≡ list_of s) × (b < s.runs.size)
+pub begun_list : (s : SeenTour) (b v : ℕ) (seen : List ℕ) → seen ≡ begun_at v (seen_of s) → v < s.segments.size →
+    ((v ≤ s.begin) × (b ≡ s.begin - v)) ⊎ ((s.begin < v) × (b ≡ s.begin + s.segments.size - v)) →
+    (begun_at b seen ≡ list_of s) × (b < s.segments.size)
 begun_list s b v seen e lv begin =
     let f = facts s in
-    let n : ℕ = s.runs.size in
+    let n : ℕ = s.segments.size in
     let lb : b < n =
     ⊎_elim (λ (a : (v ≤ s.begin) × (b ≡ s.begin - v)). omega (arith, a, s.begins))
     (λ (a : (s.begin < v) × (b ≡ s.begin + n - v)). omega (arith, a, lv)) begin in
@@ -205,7 +211,7 @@ begun_list s b v seen e lv begin =
 
 -- the position v in the sequence of position k of the list
 pub seen_in : (s : SeenTour) (k v : ℕ) → k < length (list_of s) → IsPlaceFrom (length (list_of s)) s.begin k v →
-    v < s.runs.size
+    v < s.segments.size
 seen_in s k v lk h =
     let f = facts s in
     ⊎_elim
@@ -218,7 +224,8 @@ pub list_at : (s : SeenTour) (k v c : ℕ) → k < length (list_of s) → IsPlac
 list_at s k v c lk h e =
     let f = facts s in
     let P : ℕ → Type 0 = λ u. IsPlaceFrom u s.begin k v in
-    stands_there s.runs.size s.begin k v c (seen_of s) f.seen s.begins (omega (arith, f.list, lk)) (subst P f.list h) e
+    stands_there s.segments.size s.begin k v c (seen_of s) f.seen s.begins (omega (arith, f.list, lk))
+    (subst P f.list h) e
 
 -- tours of the same size have arrays of the same size
 pub size_again : (s t : SeenTour) → length (list_of t) ≡ length (list_of s) →

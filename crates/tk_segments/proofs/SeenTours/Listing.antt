@@ -4,9 +4,9 @@ use Rattle.std.proofs.Common.{arith, get_or}
 use Rattle.std.proofs.lemmas.Bool.{cases_lt}
 use Rattle.tk_tour.specs.Places.{IsPlaceFrom}
 use Rattle.tk_tour.specs.Reversal.{begun_at}
-use Rattle.tk_segments.specs.Runs.{IsAfterPlace}
+use Rattle.tk_segments.specs.Segments.{IsAfterPlace}
 use Rattle.tk_tour.specs.Tour.{IsTour, next_city, prev_city}
-use Rattle.tk_tour.proofs.Once.{occurrences-rotation}
+use Rattle.tk_tour.proofs.DistinctCycles.{occurrences-rotation}
 use Rattle.tk_tour.proofs.StoredTours.Places.{AtPlace, length-begun_at, get_or-begun_at, IsRotation-begun_at}
 use Rattle.tk_tour.proofs.StoredTours.Reversing.{at_place, at_next}
 use Rattle.tk_tour.proofs.StoredTours.Flips.{next_city_stored, prev_city_stored}
@@ -119,7 +119,7 @@ prev_begun n b v w c x seen tour lb lv lw h ec ex =
     ∙ sym
     (get_or-begun_at seen b y.k v 0 (omega (arith, ls, lb)) (omega (arith, ls, y.within))
     (let R : ℕ → Type 0 = λ u. AtPlace u b y.k v in subst R (sym ls) y.at)) in
-    let beside : ((0 < z.k) × (y.k ≡ z.k - 1)) ⊎ ((z.k ≡ 0) × (y.k ≡ n - 1)) =
+    let neighbours : ((0 < z.k) × (y.k ≡ z.k - 1)) ⊎ ((z.k ≡ 0) × (y.k ≡ n - 1)) =
     ⊎_elim
     (λ (d : (v + 1 < n) × (w ≡ v + 1)). ⊎_elim
     (λ (g : v < b). ⊎_elim
@@ -140,7 +140,7 @@ prev_begun n b v w c x seen tour lb lv lw h ec ex =
     (⊎_elim
     (λ (a : (0 < z.k) × (y.k ≡ z.k - 1)). inl (a.0, there ∙ ap (λ u. get_or list u 0) a.1))
     (λ (a : (z.k ≡ 0) × (y.k ≡ n - 1)). inr (a.0, there ∙ ap (λ u. get_or list u 0) (a.1 ∙ ap (λ u. u - 1) (sym ll))))
-    beside)
+    neighbours)
 
 -- the city at position v of the sequence is at position k of the list
 pub stands_there : (n b k v c : ℕ) (seen : List ℕ) → length seen ≡ n → b < n → k < n → IsPlaceFrom n b k v →

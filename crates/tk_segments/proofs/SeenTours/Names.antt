@@ -3,39 +3,39 @@ use Rattle.std.proofs.Common.{◌≡◌, ◌≢◌, ℕ, true, false, ◌+◌, �
 use Rattle.std.proofs.Common.{◌++◌, take, subst, arith, get_or}
 use Rattle.std.proofs.lemmas.Bool.{cases_lt}
 use Rattle.std.proofs.lemmas.List.{get_or_default, get_or-set_same, get_or-set_other}
-use Rattle.tk_segments.specs.Runs.{IsSplit, HaveNames, AreNamed, AreNamedTo, SameBefore, Names, Holds}
-use Rattle.tk_segments.specs.Runs.{AreLaidOut, CanBeFound, StandsAs, HoldsAs, AreFound, StayFound}
-use Rattle.tk_segments.specs.declared.run.Run.{Run}
-use Rattle.tk_segments.proofs.Fronts.{at_front}
-use Rattle.tk_segments.proofs.NoRun.{no_run}
+use Rattle.tk_segments.specs.Segments.{IsSplit, HaveNames, AreNamed, AreNamedTo, SameBefore, Names, Holds}
+use Rattle.tk_segments.specs.Segments.{AreLaidOut, CanBeFound, StandsAs, HoldsAs, AreFound, StayFound}
+use Rattle.tk_segments.specs.declared.segment.Segment.{Segment}
+use Rattle.tk_segments.proofs.WrittenFronts.{at_front}
+use Rattle.tk_segments.proofs.NoSegment.{no_segment}
 use Rattle.tk_segments.proofs.SeenTours.Splitting.{cases_bool}
 use Rattle.tk_segments.proofs.SeenTours.Naming.{split_at, split_entry_before, split_entry_beyond}
 
-pub named_names : (runs : List Run) (home : List ℕ) → AreNamed runs home → HaveNames runs
-named_names runs home named = record {
+pub named_names : (segments : List Segment) (home : List ℕ) → AreNamed segments home → HaveNames segments
+named_names segments home named = record {
   less = λ k d lt. (named k d lt).0;
   apart = λ j k d lt lk e.
       absurd (omega (arith, (named j d (omega (arith, lt, lk))).1, ap (λ u. get_or home u 0) e, (named k d lk).1, lt));
 }
 
-pub SameBefore-sym : (k : ℕ) (old new : List Run) → k ≤ length new → SameBefore k old new → SameBefore k new old
+pub SameBefore-sym : (k : ℕ) (old new : List Segment) → k ≤ length new → SameBefore k old new → SameBefore k new old
 SameBefore-sym k old new le h = (le, λ j d lt. sym (h.1 j d lt))
 
-pub SameBefore-trans : (i j : ℕ) (old mid new : List Run) → SameBefore i old mid → SameBefore j mid new → i ≤ j →
+pub SameBefore-trans : (i j : ℕ) (old mid new : List Segment) → SameBefore i old mid → SameBefore j mid new → i ≤ j →
     SameBefore i old new
 SameBefore-trans i j old mid new h k le = (h.0, λ l d lt. k.1 l d (omega (arith, lt, le)) ∙ h.1 l d lt)
 
 -- the ids after one segment is inserted at f, with a new id
-pub record IdsAfter (f : ℕ) (old new : List Run) : Type 0 where
+pub record IdsAfter (f : ℕ) (old new : List Segment) : Type 0 where
   pub size : length new ≡ length old + 1
   pub inside : f ≤ length old
-  pub before : (i : ℕ) (d : Run) → i < f → (get_or new i d).id ≡ (get_or old i d).id
-  pub beyond : (i : ℕ) (d : Run) → f ≤ i → i < length old → (get_or new (i + 1) d).id ≡ (get_or old i d).id
-  pub fresh : (d : Run) → (get_or new f d).id ≡ length old
+  pub before : (i : ℕ) (d : Segment) → i < f → (get_or new i d).id ≡ (get_or old i d).id
+  pub beyond : (i : ℕ) (d : Segment) → f ≤ i → i < length old → (get_or new (i + 1) d).id ≡ (get_or old i d).id
+  pub fresh : (d : Segment) → (get_or new f d).id ≡ length old
 
-pub names_after : (f : ℕ) (old new : List Run) → IdsAfter f old new → HaveNames old → HaveNames new
+pub names_after : (f : ℕ) (old new : List Segment) → IdsAfter f old new → HaveNames old → HaveNames new
 names_after f old new h names =
-    let back : (i : ℕ) (d : Run) → f < i → i < length new →
+    let back : (i : ℕ) (d : Segment) → f < i → i < length new →
     (get_or new i d).id ≡ (get_or old (i - 1) d).id = λ i d lt li.
     let e : i - 1 + 1 ≡ i = omega (arith, lt) in
     ap (λ u. (get_or new u d).id) (sym e) ∙ h.beyond (i - 1) d (omega (arith, lt)) (omega (arith, lt, li, h.size)) in
@@ -91,9 +91,9 @@ names_after f old new h names =
     }
 
 -- if the ids after it are distinct, so were those before it
-pub names_before : (f : ℕ) (old new : List Run) → IdsAfter f old new → HaveNames new → HaveNames old
+pub names_before : (f : ℕ) (old new : List Segment) → IdsAfter f old new → HaveNames new → HaveNames old
 names_before f old new h names =
-    let fresh : (i : ℕ) (d : Run) → i < length new → i ≢ f → (get_or new i d).id < length old = λ i d li ne.
+    let fresh : (i : ℕ) (d : Segment) → i < length new → i ≢ f → (get_or new i d).id < length old = λ i d li ne.
     let apart : (get_or new i d).id ≢ length old = λ e.
     ⊎_elim
     (λ (a : i < f). names.apart i f d a (omega (arith, h.inside, h.size)) (e ∙ sym (h.fresh d)))
@@ -124,32 +124,33 @@ names_before f old new h names =
           (cases_lt k f);
     }
 
-pub same_after : (k f : ℕ) (old new : List Run) → IdsAfter f old new → k ≤ f → SameBefore k old new
+pub same_after : (k f : ℕ) (old new : List Segment) → IdsAfter f old new → k ≤ f → SameBefore k old new
 same_after k f old new h le = (omega (arith, le, h.inside), λ j d lt. h.before j d (omega (arith, lt, le)))
 
 -- the index of the part with the new id
-pub split_ids : (old new : List Run) (k m : ℕ) → k < length old → (s : IsSplit old new k m) →
-    (s.run.back ≡ true → IdsAfter k old new) × (s.run.back ≡ false → IdsAfter (k + 1) old new)
+pub split_ids : (old new : List Segment) (k m : ℕ) → k < length old → (s : IsSplit old new k m) →
+    (s.segment.back ≡ true → IdsAfter k old new) × (s.segment.back ≡ false → IdsAfter (k + 1) old new)
 split_ids old new k m lt s =
-    let size = (split_at old new k m s.run lt s).0 in
-    let one_at : (d : Run) → get_or new k d ≡ s.one = λ d. (split_at old new k m d lt s).1 in
-    let two_at : (d : Run) → get_or new (k + 1) d ≡ s.two = λ d. (split_at old new k m d lt s).2 in
-    let run_is : (d : Run) → s.run ≡ get_or old k d = λ d. s.run_is ∙ get_or_default old k s.run d lt in (
+    let size = (split_at old new k m s.segment lt s).0 in
+    let one_at : (d : Segment) → get_or new k d ≡ s.one = λ d. (split_at old new k m d lt s).1 in
+    let two_at : (d : Segment) → get_or new (k + 1) d ≡ s.two = λ d. (split_at old new k m d lt s).2 in
+    let segment_is : (d : Segment) → s.segment ≡ get_or old k d = λ d. s.segment_is ∙ get_or_default old k s.segment d
+    lt in (
       (λ e.
           let p = s.parts.behind e in
           record {
             size = size;
             inside = omega (arith, lt);
-            before = λ i d li. ap (λ (r : Run). r.id) (split_entry_before old new k m i d lt s li);
+            before = λ i d li. ap (λ (r : Segment). r.id) (split_entry_before old new k m i d lt s li);
             beyond = λ i d le li.
                 ⊎_elim
-                (λ (a : k < i). ap (λ (r : Run). r.id) (split_entry_beyond old new k m i d lt s a))
+                (λ (a : k < i). ap (λ (r : Segment). r.id) (split_entry_beyond old new k m i d lt s a))
                 (λ (a : i ≤ k).
                 let z : i ≡ k = omega (arith, a, le) in
-                ap (λ u. (get_or new (u + 1) d).id) z ∙ ap (λ (r : Run). r.id) (two_at d) ∙ p.low_is.3
-                ∙ ap (λ (r : Run). r.id) (run_is d) ∙ ap (λ u. (get_or old u d).id) (sym z))
+                ap (λ u. (get_or new (u + 1) d).id) z ∙ ap (λ (r : Segment). r.id) (two_at d) ∙ p.low_is.3
+                ∙ ap (λ (r : Segment). r.id) (segment_is d) ∙ ap (λ u. (get_or old u d).id) (sym z))
                 (cases_lt k i);
-            fresh = λ d. ap (λ (r : Run). r.id) (one_at d) ∙ p.high_is.3;
+            fresh = λ d. ap (λ (r : Segment). r.id) (one_at d) ∙ p.high_is.3;
           }),
       (λ e.
           let p = s.parts.ahead e in
@@ -158,55 +159,59 @@ split_ids old new k m lt s =
             inside = omega (arith, lt);
             before = λ i d li.
                 ⊎_elim
-                (λ (a : i < k). ap (λ (r : Run). r.id) (split_entry_before old new k m i d lt s a))
+                (λ (a : i < k). ap (λ (r : Segment). r.id) (split_entry_before old new k m i d lt s a))
                 (λ (a : k ≤ i).
                 let z : i ≡ k = omega (arith, a, li) in
-                ap (λ u. (get_or new u d).id) z ∙ ap (λ (r : Run). r.id) (one_at d) ∙ p.low_is.3
-                ∙ ap (λ (r : Run). r.id) (run_is d) ∙ ap (λ u. (get_or old u d).id) (sym z))
+                ap (λ u. (get_or new u d).id) z ∙ ap (λ (r : Segment). r.id) (one_at d) ∙ p.low_is.3
+                ∙ ap (λ (r : Segment). r.id) (segment_is d) ∙ ap (λ u. (get_or old u d).id) (sym z))
                 (cases_lt i k);
-            beyond = λ i d le li. ap (λ (r : Run). r.id) (split_entry_beyond old new k m i d lt s (omega (arith, le)));
-            fresh = λ d. ap (λ (r : Run). r.id) (two_at d) ∙ p.high_is.3;
+            beyond = λ i d le li. ap (λ (r : Segment). r.id) (split_entry_beyond old new k m i d lt s
+                (omega (arith, le)));
+            fresh = λ d. ap (λ (r : Segment). r.id) (two_at d) ∙ p.high_is.3;
           }),
     )
 
-pub split_names : (old new : List Run) (k m : ℕ) → k < length old → IsSplit old new k m → HaveNames old → HaveNames new
+pub split_names : (old new : List Segment) (k m : ℕ) → k < length old → IsSplit old new k m → HaveNames old → HaveNames
+    new
 split_names old new k m lt s h =
     ⊎_elim
-    (λ (e : s.run.back ≡ true). names_after k old new ((split_ids old new k m lt s).0 e) h)
-    (λ (e : s.run.back ≡ false). names_after (k + 1) old new ((split_ids old new k m lt s).1 e) h)
-    (cases_bool s.run.back)
+    (λ (e : s.segment.back ≡ true). names_after k old new ((split_ids old new k m lt s).0 e) h)
+    (λ (e : s.segment.back ≡ false). names_after (k + 1) old new ((split_ids old new k m lt s).1 e) h)
+    (cases_bool s.segment.back)
 
-pub split_names_before : (old new : List Run) (k m : ℕ) → k < length old → IsSplit old new k m → HaveNames new →
+pub split_names_before : (old new : List Segment) (k m : ℕ) → k < length old → IsSplit old new k m → HaveNames new →
     HaveNames old
 split_names_before old new k m lt s h =
     ⊎_elim
-    (λ (e : s.run.back ≡ true). names_before k old new ((split_ids old new k m lt s).0 e) h)
-    (λ (e : s.run.back ≡ false). names_before (k + 1) old new ((split_ids old new k m lt s).1 e) h)
-    (cases_bool s.run.back)
+    (λ (e : s.segment.back ≡ true). names_before k old new ((split_ids old new k m lt s).0 e) h)
+    (λ (e : s.segment.back ≡ false). names_before (k + 1) old new ((split_ids old new k m lt s).1 e) h)
+    (cases_bool s.segment.back)
 
-pub split_same : (old new : List Run) (k m : ℕ) → k < length old → IsSplit old new k m → SameBefore k old new
+pub split_same : (old new : List Segment) (k m : ℕ) → k < length old → IsSplit old new k m → SameBefore k old new
 split_same old new k m lt s =
     ⊎_elim
-    (λ (e : s.run.back ≡ true). same_after k k old new ((split_ids old new k m lt s).0 e) (omega arith))
-    (λ (e : s.run.back ≡ false). same_after k (k + 1) old new ((split_ids old new k m lt s).1 e) (omega arith))
-    (cases_bool s.run.back)
+    (λ (e : s.segment.back ≡ true). same_after k k old new ((split_ids old new k m lt s).0 e) (omega arith))
+    (λ (e : s.segment.back ≡ false). same_after k (k + 1) old new ((split_ids old new k m lt s).1 e) (omega arith))
+    (cases_bool s.segment.back)
 
 -- segments with the same id, the same positions and the same successor
-pub record AreAlike (r s : Run) : Type 0 where
+pub record AreAlike (r s : Segment) : Type 0 where
   pub id : r.id ≡ s.id
   pub low : r.low ≡ s.low
   pub high : r.high ≡ s.high
   pub next : r.next ≡ s.next
 
 -- the k-th of the new segments is like the p-th of the old ones if R relates k to p
-pub record AreReordered (R : ℕ → ℕ → Type 0) (old new : List Run) : Type 0 where
+pub record AreReordered (R : ℕ → ℕ → Type 0) (old new : List Segment) : Type 0 where
   pub size : length new ≡ length old
   pub from : (k : ℕ) → k < length old → (p : ℕ) × (p < length old) × R k p
   pub to : (p : ℕ) → p < length old → (k : ℕ) × (k < length old) × R k p
-  pub alike : (k p : ℕ) (d : Run) → k < length old → p < length old → R k p → AreAlike (get_or new k d) (get_or old p d)
+  pub alike : (k p : ℕ) (d : Segment) → k < length old → p < length old → R k p → AreAlike (get_or new k d)
+      (get_or old p d)
   pub one : (j k p : ℕ) → R j p → R k p → j ≡ k
 
-pub reordered_names : (R : ℕ → ℕ → Type 0) (old new : List Run) → AreReordered R old new → HaveNames old → HaveNames new
+pub reordered_names : (R : ℕ → ℕ → Type 0) (old new : List Segment) → AreReordered R old new → HaveNames old → HaveNames
+    new
 reordered_names R old new h names = record {
   less = λ k d lk.
       let f = h.from k (omega (arith, lk, h.size)) in
@@ -229,7 +234,7 @@ reordered_names R old new h names = record {
       (cases_lt f.0 g.0);
 }
 
-pub reordered_found : (R : ℕ → ℕ → Type 0) (n bucket : ℕ) (old new : List Run) (table : List ℕ) →
+pub reordered_found : (R : ℕ → ℕ → Type 0) (n bucket : ℕ) (old new : List Segment) (table : List ℕ) →
     AreReordered R old new →
     CanBeFound n bucket old table → CanBeFound n bucket new table
 reordered_found R n bucket old new table h found =
@@ -267,42 +272,46 @@ reordered_found R n bucket old new table h found =
     }
 
 -- segments are found by their ids if they are found through `home`
-pub found_by_names : (n bucket : ℕ) (runs : List Run) (home table : List ℕ) → AreFound n bucket runs home table →
-    CanBeFound n bucket runs table
-found_by_names n bucket runs home table h = record {
+pub found_by_names : (n bucket : ℕ) (segments : List Segment) (home table : List ℕ) → AreFound n bucket segments home
+    table →
+    CanBeFound n bucket segments table
+found_by_names n bucket segments home table h = record {
   apart = h.apart;
-  next = λ k d lk lt. let f = h.next k d lk lt in (get_or home (get_or runs k d).next 0, f.0, f.1);
+  next = λ k d lk lt. let f = h.next k d lk lt in (get_or home (get_or segments k d).next 0, f.0, f.1);
   early = λ b lb lt. let f = h.early b lb lt in (get_or home (get_or table b 0) 0, f.0, f.1);
 }
 
-stands_as : (runs : List Run) (home : List ℕ) (id low : ℕ) → AreNamed runs home → Names runs id low →
-    StandsAs runs home id low
-stands_as runs home id low named h =
-    let e : get_or home id 0 ≡ h.0 = ap (λ u. get_or home u 0) (sym (h.2 no_run).0) ∙ (named h.0 no_run h.1).1 in
+stands_as : (segments : List Segment) (home : List ℕ) (id low : ℕ) → AreNamed segments home → Names segments id low →
+    StandsAs segments home id low
+stands_as segments home id low named h =
+    let e : get_or home id 0 ≡ h.0 = ap (λ u. get_or home u 0) (sym (h.2 no_segment).0) ∙ (named h.0 no_segment h.1).1
+    in
     let P : ℕ → Type 0 =
-    λ u. (u < length runs) × ((d : Run) → ((get_or runs u d).id ≡ id) × ((get_or runs u d).low ≡ low)) in
+    λ u. (u < length segments) × ((d : Segment) → ((get_or segments u d).id ≡ id) × ((get_or segments u d).low ≡ low))
+    in
     subst P (sym e) (h.1, h.2)
 
-holds_as : (runs : List Run) (home : List ℕ) (id place : ℕ) → AreNamed runs home → Holds runs id place →
-    HoldsAs runs home id place
-holds_as runs home id place named h =
-    let e : get_or home id 0 ≡ h.0 = ap (λ u. get_or home u 0) (sym (h.2 no_run).0) ∙ (named h.0 no_run h.1).1 in
+holds_as : (segments : List Segment) (home : List ℕ) (id place : ℕ) → AreNamed segments home → Holds segments id place →
+    HoldsAs segments home id place
+holds_as segments home id place named h =
+    let e : get_or home id 0 ≡ h.0 = ap (λ u. get_or home u 0) (sym (h.2 no_segment).0) ∙ (named h.0 no_segment h.1).1
+    in
     let P : ℕ → Type 0 =
-    λ u. (u < length runs)
-    × ((d : Run) → ((get_or runs u d).id ≡ id) × ((get_or runs u d).low ≤ place)
-    × (place < (get_or runs u d).high)) in
+    λ u. (u < length segments)
+    × ((d : Segment) → ((get_or segments u d).id ≡ id) × ((get_or segments u d).low ≤ place)
+    × (place < (get_or segments u d).high)) in
     subst P (sym e) (h.1, h.2)
 
-pub found_by_home : (n bucket : ℕ) (runs : List Run) (home table : List ℕ) → AreNamed runs home →
-    CanBeFound n bucket runs table → AreFound n bucket runs home table
-found_by_home n bucket runs home table named h = record {
+pub found_by_home : (n bucket : ℕ) (segments : List Segment) (home table : List ℕ) → AreNamed segments home →
+    CanBeFound n bucket segments table → AreFound n bucket segments home table
+found_by_home n bucket segments home table named h = record {
   apart = h.apart;
-  next = λ k d lk lt. stands_as runs home _ _ named (h.next k d lk lt);
-  early = λ b lb lt. holds_as runs home _ _ named (h.early b lb lt);
+  next = λ k d lk lt. stands_as segments home _ _ named (h.next k d lk lt);
+  early = λ b lb lt. holds_as segments home _ _ named (h.early b lb lt);
 }
 
 -- segments that change twice
-pub StayFound-trans : (n bucket : ℕ) (xs ys zs : List Run) (r s t : List ℕ) → StayFound n bucket xs ys r s →
+pub StayFound-trans : (n bucket : ℕ) (xs ys zs : List Segment) (r s t : List ℕ) → StayFound n bucket xs ys r s →
     StayFound n bucket ys zs s t → StayFound n bucket xs zs r t
 StayFound-trans n bucket xs ys zs r s t h k = record {
   laid = k.laid;
@@ -312,13 +321,15 @@ StayFound-trans n bucket xs ys zs r s t h k = record {
 }
 
 -- segments reversed after a split, and written to the front of their vector
-pub StayFound-front : (n bucket size : ℕ) (old cut told new rest : List Run) (before table : List ℕ) → told ≡ cut →
-    length new ≡ size → StayFound n bucket old cut before table → AreLaidOut n new → (HaveNames told → HaveNames new) →
-    ((t : List ℕ) → CanBeFound n bucket told t → CanBeFound n bucket new t) →
+pub StayFound-front : (n bucket size : ℕ) (old cut reported new rest : List Segment) (before table : List ℕ) → reported
+    ≡ cut →
+    length new ≡ size → StayFound n bucket old cut before table → AreLaidOut n new →
+    (HaveNames reported → HaveNames new) →
+    ((t : List ℕ) → CanBeFound n bucket reported t → CanBeFound n bucket new t) →
     StayFound n bucket old (take size (new ++ rest)) before table
-StayFound-front n bucket size old cut told new rest before table e l h laid names found =
-    let P : List Run → Type 0 = λ u. StayFound n bucket old u before table in
-    let Q : List Run → Type 0 = λ u. CanBeFound n bucket u table in
+StayFound-front n bucket size old cut reported new rest before table e l h laid names found =
+    let P : List Segment → Type 0 = λ u. StayFound n bucket old u before table in
+    let Q : List Segment → Type 0 = λ u. CanBeFound n bucket u table in
     at_front P size new rest l
     (record {
       laid = laid;
@@ -328,18 +339,19 @@ StayFound-front n bucket size old cut told new rest before table e l h laid name
     })
 
 -- `home` is updated for one more segment
-pub named_more : (runs : List Run) (home : List ℕ) (k : ℕ) (none : Run) → HaveNames runs → k < length runs →
-    length runs ≤ length home →
-    AreNamedTo k runs home → AreNamedTo (k + 1) runs (set home (get_or runs k none).id k)
-named_more runs home k none names lt le h = λ j d lj lr.
-    let id : ℕ = (get_or runs k none).id in
-    let same : (get_or runs k d).id ≡ id = ap (λ (r : Run). r.id) (get_or_default runs k d none lt) in
+pub named_more : (segments : List Segment) (home : List ℕ) (k : ℕ) (none : Segment) → HaveNames segments → k < length
+    segments →
+    length segments ≤ length home →
+    AreNamedTo k segments home → AreNamedTo (k + 1) segments (set home (get_or segments k none).id k)
+named_more segments home k none names lt le h = λ j d lj lr.
+    let id : ℕ = (get_or segments k none).id in
+    let same : (get_or segments k d).id ≡ id = ap (λ (r : Segment). r.id) (get_or_default segments k d none lt) in
     ⊎_elim
     (λ (a : j < k).
-    let apart : (get_or runs j d).id ≢ id = λ e. names.apart j k d a lt (e ∙ sym same) in
-    get_or-set_other home id (get_or runs j d).id k 0 apart ∙ h j d a lr)
+    let apart : (get_or segments j d).id ≢ id = λ e. names.apart j k d a lt (e ∙ sym same) in
+    get_or-set_other home id (get_or segments j d).id k 0 apart ∙ h j d a lr)
     (λ (a : k ≤ j).
     let e : j ≡ k = omega (arith, a, lj) in
-    ap (λ u. get_or (set home id k) (get_or runs u d).id 0) e ∙ ap (λ u. get_or (set home id k) u 0) same
+    ap (λ u. get_or (set home id k) (get_or segments u d).id 0) e ∙ ap (λ u. get_or (set home id k) u 0) same
     ∙ get_or-set_same home id k 0 (omega (arith, names.less k none lt, le)) ∙ sym e)
     (cases_lt j k)

@@ -5,30 +5,31 @@ use Rattle.std.specs.Prelude.{reverse}
 use Rattle.std.proofs.lemmas.Bool.{cases_lt}
 use Rattle.std.proofs.lemmas.List.{length-append, length-take-le, length-drop, length-reverse, length-map, get_or-take}
 use Rattle.std.proofs.lemmas.List.{get_or-drop, get_or-reverse, get_or_append_left, get_or-append_right}
-use Rattle.tk_segments.specs.Runs.{run_size, turned_run, placed, SameBefore}
-use Rattle.tk_segments.specs.declared.run.Run.{Run}
+use Rattle.tk_segments.specs.Segments.{segment_size, turned_segment, placed, SameBefore}
+use Rattle.tk_segments.specs.declared.segment.Segment.{Segment}
 use Rattle.tk_segments.proofs.SeenTours.Placing.{length-placed}
 use Rattle.tk_segments.proofs.SeenTours.Names.{AreAlike, AreReordered}
 
-alike_of : (r s : Run) → r ≡ s → AreAlike r s
+alike_of : (r s : Segment) → r ≡ s → AreAlike r s
 alike_of r s e = record {
-  id = ap (λ (u : Run). u.id) e;
-  low = ap (λ (u : Run). u.low) e;
-  high = ap (λ (u : Run). u.high) e;
-  next = ap (λ (u : Run). u.next) e;
+  id = ap (λ (u : Segment). u.id) e;
+  low = ap (λ (u : Segment). u.low) e;
+  high = ap (λ (u : Segment). u.high) e;
+  next = ap (λ (u : Segment). u.next) e;
 }
 
-AreAlike-trans : (r s t : Run) → AreAlike r s → AreAlike s t → AreAlike r t
+AreAlike-trans : (r s t : Segment) → AreAlike r s → AreAlike s t → AreAlike r t
 AreAlike-trans r s t h k =
     record { id = h.id ∙ k.id; low = h.low ∙ k.low; high = h.high ∙ k.high; next = h.next ∙ k.next }
 
-placed_alike : (v k : ℕ) (xs : List Run) (d : Run) → k < length xs → AreAlike (get_or (placed v xs) k d) (get_or xs k d)
+placed_alike : (v k : ℕ) (xs : List Segment) (d : Segment) → k < length xs → AreAlike (get_or (placed v xs) k d)
+    (get_or xs k d)
 placed_alike v k [] d lt = absurd (omega arith)
 placed_alike v zero (x ∷ xs) d lt = record { id = refl; low = refl; high = refl; next = refl }
-placed_alike v (suc k) (x ∷ xs) d lt = placed_alike (v + run_size x) k xs d (omega arith)
+placed_alike v (suc k) (x ∷ xs) d lt = placed_alike (v + segment_size x) k xs d (omega arith)
 
-turned_alike : (k : ℕ) (xs : List Run) (d : Run) → k < length xs →
-    AreAlike (get_or (map turned_run xs) k d) (get_or xs k d)
+turned_alike : (k : ℕ) (xs : List Segment) (d : Segment) → k < length xs →
+    AreAlike (get_or (map turned_segment xs) k d) (get_or xs k d)
 turned_alike k [] d lt = absurd (omega arith)
 turned_alike zero (x ∷ xs) d lt = record { id = refl; low = refl; high = refl; next = refl }
 turned_alike (suc k) (x ∷ xs) d lt = turned_alike k xs d (omega arith)
@@ -85,18 +86,18 @@ mirror i j m k le lj lk =
     (cases_lt k j))
     (cases_lt k i)
 
-turned_entry : (i j first k p : ℕ) (old part : List Run) (d : Run) → i ≤ j → j ≤ length old →
-    part ≡ placed first (map turned_run (reverse (take (j - i) (drop i old)))) →
+turned_entry : (i j first k p : ℕ) (old part : List Segment) (d : Segment) → i ≤ j → j ≤ length old →
+    part ≡ placed first (map turned_segment (reverse (take (j - i) (drop i old)))) →
     k < length old → IsMirrored i j k p →
     AreAlike (get_or (take i old ++ (part ++ drop (j - i) (drop i old))) k d) (get_or old p d)
 turned_entry i j first k p old part d le lj ep lk h =
-    let us : List Run = take i old in
-    let rs : List Run = take (j - i) (drop i old) in
-    let ws : List Run = drop (j - i) (drop i old) in
-    let ss : List Run = map turned_run (reverse rs) in
+    let us : List Segment = take i old in
+    let rs : List Segment = take (j - i) (drop i old) in
+    let ws : List Segment = drop (j - i) (drop i old) in
+    let ss : List Segment = map turned_segment (reverse rs) in
     let lu : length us ≡ i = length-take-le i old (omega (arith, le, lj)) in
     let lr : length rs ≡ j - i = length-take-le (j - i) (drop i old) (omega (arith, length-drop i old, lj)) in
-    let ls : length ss ≡ j - i = length-map (reverse rs) turned_run ∙ length-reverse rs ∙ lr in
+    let ls : length ss ≡ j - i = length-map (reverse rs) turned_segment ∙ length-reverse rs ∙ lr in
     let lp : length part ≡ j - i = ap length ep ∙ length-placed first ss ∙ ls in
     ⊎_elim
     (λ (a : (k < i) × (p ≡ k)).
@@ -126,15 +127,15 @@ turned_entry i j first k p old part d le lj ep lk h =
     a)
     h
 
-pub turned_reordered : (i j first : ℕ) (old part : List Run) → i ≤ j → j ≤ length old →
-    part ≡ placed first (map turned_run (reverse (take (j - i) (drop i old)))) →
+pub turned_reordered : (i j first : ℕ) (old part : List Segment) → i ≤ j → j ≤ length old →
+    part ≡ placed first (map turned_segment (reverse (take (j - i) (drop i old)))) →
     AreReordered (IsMirrored i j) old (take i old ++ (part ++ drop (j - i) (drop i old)))
 turned_reordered i j first old part le lj ep =
-    let us : List Run = take i old in
-    let rs : List Run = take (j - i) (drop i old) in
-    let ws : List Run = drop (j - i) (drop i old) in
-    let lp : length part ≡ j - i = ap length ep ∙ length-placed first (map turned_run (reverse rs))
-    ∙ length-map (reverse rs) turned_run ∙ length-reverse rs
+    let us : List Segment = take i old in
+    let rs : List Segment = take (j - i) (drop i old) in
+    let ws : List Segment = drop (j - i) (drop i old) in
+    let lp : length part ≡ j - i = ap length ep ∙ length-placed first (map turned_segment (reverse rs))
+    ∙ length-map (reverse rs) turned_segment ∙ length-reverse rs
     ∙ length-take-le (j - i) (drop i old) (omega (arith, length-drop i old, lj)) in
     record {
       size =
@@ -155,8 +156,8 @@ turned_reordered i j first old part le lj ep =
       one = λ k l p h g. mirrored_one i j k l p h g;
     }
 
-pub turned_same : (i j first : ℕ) (old part : List Run) → i ≤ j → j ≤ length old →
-    part ≡ placed first (map turned_run (reverse (take (j - i) (drop i old)))) →
+pub turned_same : (i j first : ℕ) (old part : List Segment) → i ≤ j → j ≤ length old →
+    part ≡ placed first (map turned_segment (reverse (take (j - i) (drop i old)))) →
     SameBefore i old (take i old ++ (part ++ drop (j - i) (drop i old)))
 turned_same i j first old part le lj ep = (
   omega (arith, le, lj),
@@ -167,11 +168,12 @@ turned_same i j first old part le lj ep = (
 abbrev pub IsBegun : ℕ → ℕ → ℕ → ℕ → Type 0
 IsBegun m r k p = ((k + r < m) × (p ≡ k + r)) ⊎ ((m ≤ k + r) × (p + m ≡ k + r) × (k < m))
 
-begun_entry : (r k p : ℕ) (old : List Run) (d : Run) → r ≤ length old → k < length old → IsBegun (length old) r k p →
+begun_entry : (r k p : ℕ) (old : List Segment) (d : Segment) → r ≤ length old → k < length old → IsBegun (length old) r
+    k p →
     AreAlike (get_or (placed 0 (drop r old ++ take r old)) k d) (get_or old p d)
 begun_entry r k p old d lr lk h =
-    let ws : List Run = drop r old in
-    let us : List Run = take r old in
+    let ws : List Segment = drop r old in
+    let us : List Segment = take r old in
     let l : length (ws ++ us) ≡ length old =
     omega (arith, length-append ws us, length-drop r old, length-take-le r old lr, lr) in
     let e : get_or (ws ++ us) k d ≡ get_or old p d =
@@ -186,7 +188,7 @@ begun_entry r k p old d lr lk h =
     h in
     AreAlike-trans _ _ _ (placed_alike 0 k (ws ++ us) d (omega (arith, l, lk))) (alike_of _ _ e)
 
-pub begun_reordered : (r : ℕ) (old : List Run) → r ≤ length old →
+pub begun_reordered : (r : ℕ) (old : List Segment) → r ≤ length old →
     AreReordered (IsBegun (length old) r) old (placed 0 (drop r old ++ take r old))
 begun_reordered r old lr =
     let m : ℕ = length old in

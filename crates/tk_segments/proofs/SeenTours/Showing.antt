@@ -11,8 +11,8 @@ use Rattle.tk_tour.specs.Reversal.{begun_at, reversed_front, reversed_places}
 use Rattle.tk_tour.proofs.StoredTours.Places.{AtPlace, length-begun_at, get_or-begun_at, begun_at-back}
 use Rattle.tk_tour.proofs.StoredTours.Places.{reversed_places-from, length-reversed_places, length-reversed_front}
 use Rattle.tk_tour.proofs.StoredTours.TurnedWithin.{turned_within, turned_within-is}
-use Rattle.tk_segments.specs.Runs.{stretch, shown_by, shown}
-use Rattle.tk_segments.specs.declared.run.Run.{Run}
+use Rattle.tk_segments.specs.Segments.{stretch, shown_by, shown}
+use Rattle.tk_segments.specs.declared.segment.Segment.{Segment}
 
 -- a range in two parts
 pub stretch-parts : (lo q hi : ℕ) (xs : List ℕ) → lo ≤ q → q ≤ hi → stretch lo hi xs ≡ stretch lo q xs
@@ -29,53 +29,56 @@ stretch-parts lo q hi xs le1 le2 =
     ∙ ap (λ v. v ++ drop a (take (a + b) ys)) front ∙ ap (λ v. take a ys ++ v) back
 
 -- the two parts of a segment, in array order
-pub record ArePartsOf (run low high : Run) (q : ℕ) : Type 0 where
-  pub low_is : (low.low ≡ run.low) × (low.high ≡ q) × (low.back ≡ run.back)
-  pub high_is : (high.low ≡ q) × (high.high ≡ run.high) × (high.back ≡ run.back)
-  pub inside : (run.low ≤ q) × (q ≤ run.high)
+pub record ArePartsOf (segment low high : Segment) (q : ℕ) : Type 0 where
+  pub low_is : (low.low ≡ segment.low) × (low.high ≡ q) × (low.back ≡ segment.back)
+  pub high_is : (high.low ≡ q) × (high.high ≡ segment.high) × (high.back ≡ segment.back)
+  pub inside : (segment.low ≤ q) × (q ≤ segment.high)
 
-ahead : (order : List ℕ) (r : Run) → r.back ≡ false → shown_by order r ≡ stretch r.low r.high order
+ahead : (order : List ℕ) (r : Segment) → r.back ≡ false → shown_by order r ≡ stretch r.low r.high order
 ahead order r e = ap (λ b. if b then reverse (stretch r.low r.high order) else stretch r.low r.high order) e
 
-behind : (order : List ℕ) (r : Run) → r.back ≡ true → shown_by order r ≡ reverse (stretch r.low r.high order)
+behind : (order : List ℕ) (r : Segment) → r.back ≡ true → shown_by order r ≡ reverse (stretch r.low r.high order)
 behind order r e = ap (λ b. if b then reverse (stretch r.low r.high order) else stretch r.low r.high order) e
 
-whole_stretch : (order : List ℕ) (run low high : Run) (q : ℕ) → ArePartsOf run low high q →
-    stretch run.low run.high order ≡ stretch low.low low.high order ++ stretch high.low high.high order
-whole_stretch order run low high q h =
-    stretch-parts run.low q run.high order h.inside.0 h.inside.1
-    ∙ ap (λ v. stretch v q order ++ stretch q run.high order) (sym h.low_is.0)
-    ∙ ap (λ v. stretch low.low v order ++ stretch q run.high order) (sym h.low_is.1)
-    ∙ ap (λ v. stretch low.low low.high order ++ stretch v run.high order) (sym h.high_is.0)
+whole_stretch : (order : List ℕ) (segment low high : Segment) (q : ℕ) → ArePartsOf segment low high q →
+    stretch segment.low segment.high order ≡ stretch low.low low.high order ++ stretch high.low high.high order
+whole_stretch order segment low high q h =
+    stretch-parts segment.low q segment.high order h.inside.0 h.inside.1
+    ∙ ap (λ v. stretch v q order ++ stretch q segment.high order) (sym h.low_is.0)
+    ∙ ap (λ v. stretch low.low v order ++ stretch q segment.high order) (sym h.low_is.1)
+    ∙ ap (λ v. stretch low.low low.high order ++ stretch v segment.high order) (sym h.high_is.0)
     ∙ ap (λ v. stretch low.low low.high order ++ stretch high.low v order) (sym h.high_is.1)
 
-pub shown_by-ahead : (order : List ℕ) (run low high : Run) (q : ℕ) → ArePartsOf run low high q → run.back ≡ false →
-    shown_by order run ≡ shown_by order low ++ shown_by order high
-shown_by-ahead order run low high q h e =
-    ahead order run e ∙ whole_stretch order run low high q h
+pub shown_by-ahead : (order : List ℕ) (segment low high : Segment) (q : ℕ) → ArePartsOf segment low high q →
+    segment.back ≡ false →
+    shown_by order segment ≡ shown_by order low ++ shown_by order high
+shown_by-ahead order segment low high q h e =
+    ahead order segment e ∙ whole_stretch order segment low high q h
     ∙ ap (λ v. v ++ stretch high.low high.high order) (sym (ahead order low (h.low_is.2 ∙ e)))
     ∙ ap (λ v. shown_by order low ++ v) (sym (ahead order high (h.high_is.2 ∙ e)))
 
-pub shown_by-behind : (order : List ℕ) (run low high : Run) (q : ℕ) → ArePartsOf run low high q → run.back ≡ true →
-    shown_by order run ≡ shown_by order high ++ shown_by order low
-shown_by-behind order run low high q h e =
-    behind order run e ∙ ap reverse (whole_stretch order run low high q h)
+pub shown_by-behind : (order : List ℕ) (segment low high : Segment) (q : ℕ) → ArePartsOf segment low high q →
+    segment.back ≡ true →
+    shown_by order segment ≡ shown_by order high ++ shown_by order low
+shown_by-behind order segment low high q h e =
+    behind order segment e ∙ ap reverse (whole_stretch order segment low high q h)
     ∙ reverse-append (stretch low.low low.high order) (stretch high.low high.high order)
     ∙ ap (λ v. v ++ reverse (stretch low.low low.high order)) (sym (behind order high (h.high_is.2 ∙ e)))
     ∙ ap (λ v. shown_by order high ++ v) (sym (behind order low (h.low_is.2 ∙ e)))
 
 -- a segment between others, split in two
-pub shown-parted : (order : List ℕ) (us vs : List Run) (run one two : Run) → shown_by order run ≡ shown_by order one
+pub shown-parted : (order : List ℕ) (us vs : List Segment) (segment one two : Segment) → shown_by order segment ≡
+    shown_by order one
     ++ shown_by order two →
-    shown order (us ++ one ∷ two ∷ vs) ≡ shown order (us ++ run ∷ vs)
-shown-parted order us vs run one two e =
+    shown order (us ++ one ∷ two ∷ vs) ≡ shown order (us ++ segment ∷ vs)
+shown-parted order us vs segment one two e =
     flat_map-append (shown_by order) us (one ∷ two ∷ vs)
     ∙ ap (λ v. shown order us ++ v) (sym (append_assoc (shown_by order one) (shown_by order two) (shown order vs))
     ∙ ap (λ v. v ++ shown order vs) (sym e))
-    ∙ sym (flat_map-append (shown_by order) us (run ∷ vs))
+    ∙ sym (flat_map-append (shown_by order) us (segment ∷ vs))
 
 -- one segment reversed
-pub record IsTurned (r s : Run) : Type 0 where
+pub record IsTurned (r s : Segment) : Type 0 where
   pub low : s.low ≡ r.low
   pub high : s.high ≡ r.high
   pub back : s.back ≡ not r.back
@@ -84,7 +87,7 @@ turn_stretch : (b : Bool) (xs : List ℕ) → (if not b then reverse xs else xs)
 turn_stretch true xs = sym (reverse-reverse xs)
 turn_stretch false xs = refl
 
-pub shown_by-turned : (order : List ℕ) (r s : Run) → IsTurned r s → shown_by order s ≡ reverse (shown_by order r)
+pub shown_by-turned : (order : List ℕ) (r s : Segment) → IsTurned r s → shown_by order s ≡ reverse (shown_by order r)
 shown_by-turned order r s h =
     ap (λ v. if s.back then reverse (stretch v s.high order) else stretch v s.high order) h.low
     ∙ ap (λ v. if s.back then reverse (stretch r.low v order) else stretch r.low v order) h.high
@@ -92,9 +95,9 @@ shown_by-turned order r s h =
     ∙ turn_stretch r.back (stretch r.low r.high order)
 
 -- segments reversed one by one
-pub data AreTurned : List Run → List Run → Type 0 where
+pub data AreTurned : List Segment → List Segment → Type 0 where
   none : AreTurned [] []
-  more : {r s : Run} {rs ss : List Run} → IsTurned r s → AreTurned rs ss → AreTurned (r ∷ rs) (s ∷ ss)
+  more : {r s : Segment} {rs ss : List Segment} → IsTurned r s → AreTurned rs ss → AreTurned (r ∷ rs) (s ∷ ss)
 
 pub reverse-flat_map : {X : Type 0} (f : X → List ℕ) (xs : List X) →
     reverse (flat_map f xs) ≡ flat_map (λ x. reverse (f x)) (reverse xs)
@@ -106,7 +109,7 @@ reverse-flat_map f (x ∷ xs) =
     ∙ sym (flat_map-append (λ y. reverse (f y)) (reverse xs) (x ∷ []))
     ∙ ap (flat_map (λ y. reverse (f y))) (sym (reverse-append (x ∷ []) xs))
 
-turned_each : (order : List ℕ) (rs ss : List Run) → AreTurned rs ss →
+turned_each : (order : List ℕ) (rs ss : List Segment) → AreTurned rs ss →
     shown order ss ≡ flat_map (λ r. reverse (shown_by order r)) rs
 turned_each order _ _ AreTurned.none = refl
 turned_each order _ _ (AreTurned.more {r} {s} {rs} {ss} h t) =
@@ -114,7 +117,7 @@ turned_each order _ _ (AreTurned.more {r} {s} {rs} {ss} h t) =
     ∙ ap (λ v. reverse (shown_by order r) ++ v) (turned_each order rs ss t)
 
 -- segments reversed in reverse order show the reverse
-pub shown-turned : (order : List ℕ) (rs ss : List Run) → AreTurned (reverse rs) ss →
+pub shown-turned : (order : List ℕ) (rs ss : List Segment) → AreTurned (reverse rs) ss →
     shown order ss ≡ reverse (shown order rs)
 shown-turned order rs ss h = turned_each order (reverse rs) ss h ∙ sym (reverse-flat_map (shown_by order) rs)
 
@@ -137,7 +140,7 @@ reversed_places-midst us vs ws =
     sym e ∙ turned_within-is k m xs le
 
 -- the reversal of segments is the reversal of the positions that they show
-pub shown-turn : (order : List ℕ) (us rs ss ws : List Run) → AreTurned (reverse rs) ss →
+pub shown-turn : (order : List ℕ) (us rs ss ws : List Segment) → AreTurned (reverse rs) ss →
     shown order (us ++ (ss ++ ws)) ≡ reversed_places (length (shown order us)) (length (shown order rs))
     (shown order (us ++ (rs ++ ws)))
 shown-turn order us rs ss ws h =
@@ -152,7 +155,7 @@ shown-turn order us rs ss ws h =
     new ∙ reversed_places-midst A B C ∙ ap (reversed_places (length A) (length B)) (sym old)
 
 -- segments rotated to begin with another one show a rotation
-pub shown-begun : (order : List ℕ) (us ws : List Run) →
+pub shown-begun : (order : List ℕ) (us ws : List Segment) →
     shown order (ws ++ us) ≡ begun_at (length (shown order us)) (shown order (us ++ ws))
 shown-begun order us ws =
     let f = shown_by order in

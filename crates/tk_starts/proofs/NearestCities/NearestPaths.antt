@@ -6,15 +6,15 @@ use Rattle.std.proofs.lemmas.Bool.{cases_lt}
 use Rattle.std.proofs.lemmas.List.{get_or_append_left, get_or-append_right, length-append}
 use Rattle.tk_distance.specs.Cities.{IsCity}
 use Rattle.tk_near.specs.Near.{IsFirst, IsNew}
-use Rattle.tk_near.specs.Placed.{nowhere}
+use Rattle.tk_near.specs.CityPoint.{nowhere}
 use Rattle.tk_tour.specs.Tour.{occurrences}
 use Rattle.tk_tour.proofs.Tours.{HoldsOnce-from_distinct, length-distinct, length-whole, occurrences-index}
 use Rattle.tk_starts.specs.NearestTour.{IsNearestPath, IsNearestTour}
-use Rattle.tk_starts.specs.Unvisited.{IsFirstLeft, AreAllVisited, AreVisited}
-use Rattle.tk_near.specs.Left.{ArePlacedApart, IsOtherIn, IsTakenOut, Stands}
-use Rattle.tk_near.proofs.InPlane.LeftLaws.{Stands-old, Stands-new, gone}
-use Rattle.tk_near.specs.declared.plane.left.Found.{Found}
-use Rattle.tk_near.specs.declared.plane.placed.Placed.{Placed}
+use Rattle.tk_starts.specs.Unvisited.{IsFirstUnvisited, AreAllVisited, AreVisited}
+use Rattle.tk_near.specs.Unvisited.{ArePlacedApart, IsOtherIn, IsTakenOut, Stands}
+use Rattle.tk_near.proofs.InPlane.UnvisitedLaws.{Stands-old, Stands-new, gone}
+use Rattle.tk_near.specs.declared.plane.unvisited.CityHint.{CityHint}
+use Rattle.tk_near.specs.declared.plane.city_point.CityPoint.{CityPoint}
 use Rattle.tk_problem.specs.declared.point.Point.{Point}
 use Rattle.tk_starts.proofs.NearestCities.NearestTours.{path_city, path_apart}
 
@@ -35,7 +35,7 @@ module _ (xs : List ℕ) (b : ℕ) where
   new_of_front m c l h = λ i li e. h i li (front_of i (omega arith) ∙ e)
 
 -- one more city is visited
-pub visited_more : (n m : ℕ) (place_of : ℕ → Point) (p : Placed) (left now : List Placed) (cities : List ℕ) →
+pub visited_more : (n m : ℕ) (place_of : ℕ → Point) (p : CityPoint) (left now : List CityPoint) (cities : List ℕ) →
     AreVisited n left m cities → slice_index cities m ≡ p.city → ArePlacedApart n place_of left →
     IsTakenOut p left now →
     AreVisited n now (m + 1) cities
@@ -54,9 +54,9 @@ visited_more n m place_of p left now cities h is apart taken c cc = (
 )
 
 -- and the first of those that are left is the next of the tour
-pub IsNearestPath-more : (dist : ℕ → ℕ → ℕ) (n start here b : ℕ) (left : List Placed) (cities : List ℕ) →
+pub IsNearestPath-more : (dist : ℕ → ℕ → ℕ) (n start here b : ℕ) (left : List CityPoint) (cities : List ℕ) →
     IsNearestPath dist n start cities → AreVisited n left (length cities) cities →
-    slice_index cities (length cities - 1) ≡ here → IsFirstLeft dist n left here b →
+    slice_index cities (length cities - 1) ≡ here → IsFirstUnvisited dist n left here b →
     IsNearestPath dist n start (cities ++ b ∷ [])
 IsNearestPath-more dist n start here b left cities h v is first = record {
   some = omega (arith, length-append cities (b ∷ []), h.some);
@@ -89,12 +89,12 @@ IsNearestPath-more dist n start here b left cities h v is first = record {
 }
 
 -- a list of cities that are visited but for the last
-pub record IsUnderWay (dist : ℕ → ℕ → ℕ) (n start here : ℕ) (left : List Placed) (cities : List ℕ) : Type 0 where
+pub record IsUnderWay (dist : ℕ → ℕ → ℕ) (n start here : ℕ) (left : List CityPoint) (cities : List ℕ) : Type 0 where
   pub path : IsNearestPath dist n start cities
   pub marked : AreVisited n left (length cities - 1) cities
   pub last : slice_index cities (length cities - 1) ≡ here
 
-module _ {dist : ℕ → ℕ → ℕ} {n start here : ℕ} {left : List Placed} {cities : List ℕ} (city : IsCity n start)
+module _ {dist : ℕ → ℕ → ℕ} {n start here : ℕ} {left : List CityPoint} {cities : List ℕ} (city : IsCity n start)
     (h : IsUnderWay dist n start here left cities) where
   pub here_city : IsCity n here
   here_city =
@@ -105,7 +105,7 @@ module _ {dist : ℕ → ℕ → ℕ} {n start here : ℕ} {left : List Placed} 
       (h.marked here here_city).1
       (λ i li e. path_apart h.path i (length cities - 1) li (omega (arith, h.path.some)) (e ∙ sym h.last))
 
-  all_visited : (place_of : ℕ → Point) (p : Placed) (now : List Placed) → p.city ≡ here →
+  all_visited : (place_of : ℕ → Point) (p : CityPoint) (now : List CityPoint) → p.city ≡ here →
       ArePlacedApart n place_of left →
       IsTakenOut p left now → AreVisited n now (length cities) cities
   all_visited place_of p now is apart taken =
@@ -113,8 +113,8 @@ module _ {dist : ℕ → ℕ → ℕ} {n start here : ℕ} {left : List Placed} 
       subst (λ m. AreVisited n now m cities) k
       (visited_more n (length cities - 1) place_of p left now cities h.marked (h.last ∙ sym is) apart taken)
 
-  pub IsUnderWay-more : (place_of : ℕ → Point) (p : Placed) (now : List Placed) (b : ℕ) → p.city ≡ here →
-      ArePlacedApart n place_of left → IsTakenOut p left now → IsFirstLeft dist n now here b →
+  pub IsUnderWay-more : (place_of : ℕ → Point) (p : CityPoint) (now : List CityPoint) (b : ℕ) → p.city ≡ here →
+      ArePlacedApart n place_of left → IsTakenOut p left now → IsFirstUnvisited dist n now here b →
       IsUnderWay dist n start b now (cities ++ b ∷ [])
   IsUnderWay-more place_of p now b is apart taken first =
       let v = all_visited place_of p now is apart taken in
@@ -138,7 +138,7 @@ module _ {dist : ℕ → ℕ → ℕ} {n start here : ℕ} {left : List Placed} 
       (HoldsOnce-from_distinct cities (λ i j lt lj. path_apart h.path i j lt lj))
 
   -- once no city is left, the list is whole
-  pub IsNearestTour-whole : (place_of : ℕ → Point) (p : Placed) (now : List Placed) → p.city ≡ here →
+  pub IsNearestTour-whole : (place_of : ℕ → Point) (p : CityPoint) (now : List CityPoint) → p.city ≡ here →
       ArePlacedApart n place_of left → IsTakenOut p left now → AreAllVisited n now → IsNearestTour dist n start cities
   IsNearestTour-whole place_of p now is apart taken all =
       let v = all_visited place_of p now is apart taken in
@@ -155,10 +155,10 @@ module _ {dist : ℕ → ℕ → ℕ} {n start here : ℕ} {left : List Placed} 
       record { count = count; first = h.path.first; each = λ j l. h.path.each j (omega arith) }
 
 -- where c does not stand in a row, the first of its other cities is the first of all
-pub first_of_left : (dist : ℕ → ℕ → ℕ) (n : ℕ) (place_of : ℕ → Point) (c : ℕ) (row : List Placed)
-    → ArePlacedApart n place_of row → (Stands row c → ⊥) → (o : Option Found)
+pub first_of_left : (dist : ℕ → ℕ → ℕ) (n : ℕ) (place_of : ℕ → Point) (c : ℕ) (row : List CityPoint)
+    → ArePlacedApart n place_of row → (Stands row c → ⊥) → (o : Option CityHint)
     → MatchOption o ((b : ℕ) → IsOtherIn row c b → ⊥) (λ f. IsFirst dist c (IsOtherIn row c) f.city) →
-    MatchOption o (AreAllVisited n row) (λ f. IsFirstLeft dist n row c f.city)
+    MatchOption o (AreAllVisited n row) (λ f. IsFirstUnvisited dist n row c f.city)
 first_of_left dist n place_of c row apart gone None h =
     λ b city s. h b (s.0, s.1, s.2, λ e. gone (subst (Stands row) e s))
 first_of_left dist n place_of c row apart gone (Some f) h = record {

@@ -11,8 +11,8 @@ use Rattle.tk_tour.specs.Tour.{IsTour}
 use Rattle.tk_tour.proofs.Tours.{IsTour-from_distinct}
 use Rattle.tk_starts.specs.NearestTour.{IsNearestTo, IsNearestTour, IsNearestPath}
 use Rattle.tk_near.specs.Keeping.{rank, candidate}
-use Rattle.tk_near.proofs.InPlane.OneEach.{OneEach-swap}
-use Rattle.tk_near.proofs.Keeping.{closer_from_rank}
+use Rattle.tk_near.proofs.InPlane.DistinctPlaces.{OneEach-swap}
+use Rattle.tk_near.proofs.KeptCandidates.{closer_from_rank}
 
 -- what an exchange of two places keeps of a tour
 module _ (n : ℕ) (xs : List ℕ) (a b : ℕ) (la : a < length xs) (lb : b < length xs) where

@@ -5,7 +5,7 @@ use Rattle.std.proofs.lemmas.Bool.{cases_eq}
 use Rattle.std.proofs.lemmas.List.{ext_get_or}
 use Rattle.tk_distance.specs.Cities.{IsCity}
 use Rattle.tk_near.specs.Near.{IsFirst, IsNew}
-use Rattle.tk_near.proofs.Laws.{IsFirst-unique}
+use Rattle.tk_near.proofs.DeterminedLists.{IsFirst-unique}
 use Rattle.tk_starts.specs.NearestTour.{IsNearestTour}
 
 module _ (dist : ℕ → ℕ → ℕ) (n from : ℕ) (xs ys : List ℕ) (f : IsNearestTour dist n from xs)

@@ -1,7 +1,7 @@
 //! Problem texts, read at once, byte by byte and in small pieces.
 
 use crate::fakes::Drip;
-use crate::problems::told::{Told, is_same_problem, told_by};
+use crate::problems::reported::{Reported, is_same_problem, reported_by};
 use crate::texts::{expect, joined};
 use std::alloc::Global;
 use std::process::Abort;
@@ -56,7 +56,7 @@ pub fn refuse<A: Abort>(rt: &A, alloc: Global, rows: &[(&[u8], u64, TextKind)]) 
 }
 
 /// Checks that the text is read as this problem.
-pub fn accept<A: Abort>(rt: &A, alloc: Global, text: &[u8], wanted: &Told<'_>) {
+pub fn accept<A: Abort>(rt: &A, alloc: Global, text: &[u8], wanted: &Reported<'_>) {
     expect(rt, is_accepted(read(rt, alloc, text), wanted));
 }
 
@@ -66,7 +66,7 @@ pub fn accept_each<A: Abort>(
     alloc: Global,
     first: &[u8],
     lasts: &[&[u8]],
-    wanted: &Told<'_>,
+    wanted: &Reported<'_>,
 ) {
     for last in lasts {
         let text = joined(rt, alloc, &[first, *last]);
@@ -74,9 +74,9 @@ pub fn accept_each<A: Abort>(
     }
 }
 
-fn is_accepted(answer: Result<Problem, TextFault>, wanted: &Told<'_>) -> bool {
+fn is_accepted(answer: Result<Problem, TextFault>, wanted: &Reported<'_>) -> bool {
     match answer {
-        Ok(problem) => is_same_problem(&told_by(&problem), wanted),
+        Ok(problem) => is_same_problem(&reported_by(&problem), wanted),
         Err(_) => false,
     }
 }
@@ -84,7 +84,7 @@ fn is_accepted(answer: Result<Problem, TextFault>, wanted: &Told<'_>) -> bool {
 fn is_same(left: &Result<Problem, TextFault>, right: &Result<Problem, TextFault>) -> bool {
     match left {
         Ok(left) => match right {
-            Ok(right) => is_same_problem(&told_by(left), &told_by(right)),
+            Ok(right) => is_same_problem(&reported_by(left), &reported_by(right)),
             Err(_) => false,
         },
         Err(left) => match right {

@@ -1,7 +1,7 @@
 //! Problem texts that are accepted, and all beginnings of some of them.
 
 use crate::problems::read_both_ways::{accept, accept_each, fault, read};
-use crate::problems::told::{Told, ToldWeights};
+use crate::problems::reported::{Reported, ReportedWeights};
 use crate::texts::expect;
 use std::alloc::Global;
 use std::process::Abort;
@@ -252,10 +252,10 @@ const OVERLOADED: &[&[Run]] = &[
 fn beginnings_of_a_routing(rt: HostRuntime) {
     let text = grown(&rt, rt.alloc(), FITTING);
     let places = Places::Fine(&[HUB, EAST, FAR_EAST, WEST, FAR_WEST]);
-    let wanted = Told {
+    let wanted = Reported {
         name: b"v",
         n: 5,
-        weights: ToldWeights::Points(PlaneKind::Euc2d, places),
+        weights: ReportedWeights::Points(PlaneKind::Euc2d, places),
         routing: Some((2, &[0, 1, 1, 1, 1], 1)),
     };
     accept(&rt, rt.alloc(), &text, &wanted);
@@ -271,11 +271,11 @@ const EXPLICIT: &[u8] =
     b"TYPE : TSP\nDIMENSION : 4\nEDGE_WEIGHT_TYPE : EXPLICIT\nEDGE_WEIGHT_FORMAT : ";
 
 /// The problem of such a text, with these weights below the diagonal.
-fn explicit(lower: &[u32]) -> Told<'_> {
-    Told {
+fn explicit(lower: &[u32]) -> Reported<'_> {
+    Reported {
         name: b"Unnamed",
         n: 4,
-        weights: ToldWeights::Lower(lower),
+        weights: ReportedWeights::Lower(lower),
         routing: None,
     }
 }
@@ -335,10 +335,10 @@ fn coordinates(rt: HostRuntime) {
             y: -100_000_000,
         },
     ]);
-    let wanted = Told {
+    let wanted = Reported {
         name: b"Unnamed",
         n: 4,
-        weights: ToldWeights::Points(PlaneKind::Att, places),
+        weights: ReportedWeights::Points(PlaneKind::Att, places),
         routing: None,
     };
     accept(&rt, rt.alloc(), text, &wanted);
@@ -354,10 +354,10 @@ fn accept_two<'a>(
     rows: &[(&[u8], &'a [u8], PlaneKind)],
 ) {
     for (last, name, kind) in rows {
-        let wanted = Told {
+        let wanted = Reported {
             name,
             n: 2,
-            weights: ToldWeights::Points(*kind, Places::Fine(places)),
+            weights: ReportedWeights::Points(*kind, Places::Fine(places)),
             routing: None,
         };
         accept_each(rt, alloc, first, &[last], &wanted);
@@ -394,10 +394,10 @@ fn kinds(rt: HostRuntime) {
 /// A routing whose depot is not its first node, with each ending that its section can have.
 #[test]
 fn depots(rt: HostRuntime) {
-    let wanted = Told {
+    let wanted = Reported {
         name: b"a b  c",
         n: 3,
-        weights: ToldWeights::Points(PlaneKind::Euc2d, Places::Fine(&[EAST, HUB, FAR_EAST])),
+        weights: ReportedWeights::Points(PlaneKind::Euc2d, Places::Fine(&[EAST, HUB, FAR_EAST])),
         routing: Some((2_000_000_000, &[1, 0, 2_000_000_000], 2)),
     };
     accept_each(

@@ -3,7 +3,7 @@ ghost use Rattle.std.specs.Prelude.{◌≡◌, ◌+◌, ◌-◌, ◌*◌, ◌≤
 
 use crate::fakes::{FakeSink, ROOM};
 use crate::problems::read_both_ways::accept;
-use crate::problems::told::{Told, ToldWeights};
+use crate::problems::reported::{Reported, ReportedWeights};
 use crate::texts::joined;
 use crate::written::limits::expect_taken;
 use std::alloc::Global;
@@ -49,8 +49,8 @@ fn writes_a_lower_triangle_with_its_diagonal(rt: HostRuntime) {
     for limit in 0..=THREE_TEXT.len() {
         for errs in [false, true] {
             let mut sink = FakeSink::new(limit, errs);
-            let told = write_three(&mut sink);
-            expect_taken(&rt, &sink, told, THREE_TEXT);
+            let reported = write_three(&mut sink);
+            expect_taken(&rt, &sink, reported, THREE_TEXT);
         }
     }
 }
@@ -58,10 +58,10 @@ fn writes_a_lower_triangle_with_its_diagonal(rt: HostRuntime) {
 /// The text of three cities is read as its name and the weights below its diagonal.
 #[test]
 fn a_matrix_is_read_back(rt: HostRuntime) {
-    let wanted = Told {
+    let wanted = Reported {
         name: b"p",
         n: 3,
-        weights: ToldWeights::Lower(&[3, 4, 5]),
+        weights: ReportedWeights::Lower(&[3, 4, 5]),
         routing: None,
     };
     accept(&rt, rt.alloc(), THREE_TEXT, &wanted);
@@ -83,8 +83,8 @@ fn expect_four(rt: &impl Abort, alloc: Global, rows: &[InFormat<'_>]) {
             &[HEAD, word, b"\nEDGE_WEIGHT_SECTION\n", lines, b"EOF\n"],
         );
         let mut sink = FakeSink::new(ROOM, false);
-        let told = write_four(&mut sink, *format);
-        expect_taken(rt, &sink, told, &text);
+        let reported = write_four(&mut sink, *format);
+        expect_taken(rt, &sink, reported, &text);
     }
 }
 

@@ -49,8 +49,8 @@ fn writes_pieces(rt: HostRuntime) {
     for limit in 0..=PIECES_TEXT.len() {
         for errs in [false, true] {
             let mut sink = FakeSink::new(limit, errs);
-            let told = write_pieces(&mut sink);
-            expect_taken(&rt, &sink, told, PIECES_TEXT);
+            let reported = write_pieces(&mut sink);
+            expect_taken(&rt, &sink, reported, PIECES_TEXT);
         }
     }
 }
@@ -74,8 +74,8 @@ fn expect_long(rt: &impl Abort, bytes: &[u8]) {
 #[test]
 fn writes_more_than_a_page(rt: HostRuntime) {
     let mut sink = ToWrite::new(Vec::new(rt.alloc()));
-    let told = write_long(&mut sink);
-    expect(&rt, told == Ok(()));
+    let reported = write_long(&mut sink);
+    expect(&rt, reported == Ok(()));
     expect(&rt, !sink.failed());
     expect_long(&rt, sink.inner.as_slice());
 }
@@ -87,8 +87,8 @@ const TOUR_TEXT: &[u8] =
 fn writes_a_tour(rt: HostRuntime) {
     for limit in 0..=TOUR_TEXT.len() {
         let mut sink = FakeSink::new(limit, limit % 2 == 0);
-        let told = write_tour(&mut sink, b"p", 40, &[1, 3, 2, 4]);
-        expect_taken(&rt, &sink, told, TOUR_TEXT);
+        let reported = write_tour(&mut sink, b"p", 40, &[1, 3, 2, 4]);
+        expect_taken(&rt, &sink, reported, TOUR_TEXT);
     }
 }
 
@@ -99,7 +99,7 @@ fn writes_a_solution(rt: HostRuntime) {
     let routes = two_routes(&rt, rt.alloc());
     for limit in 0..=SOLUTION_TEXT.len() {
         let mut sink = FakeSink::new(limit, limit % 2 == 0);
-        let told = write_solution(&mut sink, &routes, 44);
-        expect_taken(&rt, &sink, told, SOLUTION_TEXT);
+        let reported = write_solution(&mut sink, &routes, 44);
+        expect_taken(&rt, &sink, reported, SOLUTION_TEXT);
     }
 }

@@ -8,10 +8,10 @@ use Rattle.tk_distance.specs.Cities.{IsCity}
 use Rattle.tk_tour.specs.Tour.{occurrences, IsTour, IsSizedTour, IsRotation, SameCycle, IsPath, next_city, prev_city}
 use Rattle.tk_tour.specs.Moves.{CanFlip, TwoOptMove, ReplacesSteps}
 use Rattle.tk_tour.proofs.Cycle.{IsRotation-reverse, IsRotation-trans, IsRotation-append}
-use Rattle.tk_tour.proofs.Once.{HoldsOnce, occurrences-append, occurrences-reverse}
+use Rattle.tk_tour.proofs.DistinctCycles.{HoldsOnce, occurrences-append, occurrences-reverse}
 use Rattle.tk_tour.proofs.Tours.{HoldsOnce-tour, occurrences-nil, occurrences-other, place_found, next_city-inside}
 use Rattle.tk_tour.proofs.Tours.{next_city-end, prev_city-inside, prev_city-start}
-use Rattle.tk_tour.proofs.Steps.{Neighbours-paths}
+use Rattle.tk_tour.proofs.CycleNeighbours.{Neighbours-paths}
 
 pub IsTour-reverse : (n : ℕ) (xs : List ℕ) → IsTour n xs → IsTour n (reverse xs)
 IsTour-reverse n xs h = (length-reverse xs ∙ h.0, λ c low high. occurrences-reverse c xs ∙ h.1 c low high)

@@ -12,8 +12,9 @@ use Rattle.std.proofs.lemmas.List.{take-append-drop}
 use Rattle.tk_tour.specs.Tour.{occurrences}
 use Rattle.std.proofs.lemmas.List.{reverse-append, reverse-reverse, length-reverse}
 use Rattle.tk_tour.proofs.Cycle.{SameCycle-trans, IsRotation-append, IsPath-reverse}
-use Rattle.tk_tour.proofs.Once.{occurrences-rotation, occurrences-append, occurrences-reverse, ReplacesSteps-turn}
-use Rattle.tk_tour.proofs.Once.{ReplacesSteps-mirror}
+use Rattle.tk_tour.proofs.DistinctCycles.{occurrences-rotation, occurrences-append, occurrences-reverse}
+use Rattle.tk_tour.proofs.DistinctCycles.{ReplacesSteps-turn}
+use Rattle.tk_tour.proofs.DistinctCycles.{ReplacesSteps-mirror}
 use Rattle.tk_tour.proofs.Tours.{HoldsOnce-tour, city_at_place, next_city-inside, next_city-end, prev_city-inside}
 use Rattle.tk_tour.proofs.Tours.{prev_city-start, city_in_range}
 use Rattle.tk_tour.proofs.StoredTours.Places.{IsRotation-begun_at, length-reversed_places, AtPlace, get_or-begun_at}

@@ -12,7 +12,7 @@ use Rattle.tk_tour.specs.Tour.{IsRotation, SameCycle, IsPath}
 use Rattle.tk_tour.specs.Moves.{ReplacesSteps}
 use Rattle.tk_tour.specs.Reversal.{begun_at, reversed_front, reversed_places}
 use Rattle.tk_tour.proofs.Cycle.{IsRotation-append, IsRotation-sym, IsRotation-trans, SameCycle-trans, SameCycle-sym}
-use Rattle.tk_tour.proofs.Once.{HoldsOnce, HoldsOnce-cycle, same_pieces, ReplacesSteps-from_cut}
+use Rattle.tk_tour.proofs.DistinctCycles.{HoldsOnce, HoldsOnce-cycle, same_pieces, ReplacesSteps-from_cut}
 
 pub length-begun_at : (k : ℕ) (xs : List ℕ) → length (begun_at k xs) ≡ length xs
 length-begun_at k xs = simp (length-append, length-drop, length-take) (omega arith)

@@ -6,7 +6,7 @@ use Rattle.std.proofs.lemmas.List.{append_assoc, length-append, length-reverse, 
 use Rattle.tk_tour.specs.Tour.{occurrences, IsSizedTour, IsRotation, SameCycle}
 use Rattle.tk_tour.specs.Printed.{IsPrintedForm}
 use Rattle.tk_tour.proofs.Cycle.{IsRotation-trans, SameCycle-sym, SameCycle-trans}
-use Rattle.tk_tour.proofs.Once.{HoldsOnce, HoldsOnce-cycle, occurrences-append, occurrences-at, one_rotation}
+use Rattle.tk_tour.proofs.DistinctCycles.{HoldsOnce, HoldsOnce-cycle, occurrences-append, occurrences-at, one_rotation}
 use Rattle.tk_tour.proofs.Tours.{HoldsOnce-tour, occurrences-index}
 
 length-rotation : (xs ys : List ℕ) → IsRotation xs ys → length ys ≡ length xs

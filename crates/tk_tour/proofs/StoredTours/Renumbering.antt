@@ -12,7 +12,7 @@ pub record Renumbering (order place : List ℕ) (k last : ℕ) : Type 0 where
   pub size : length place ≡ length order
   pub cities : (i : ℕ) → i < length order → (0 < get_or order i 0) × (get_or order i 0 ≤ length order)
   pub apart : (i j : ℕ) → i < length order → j < length order → get_or order i 0 ≡ get_or order j 0 → i ≡ j
-  pub told : (i : ℕ) → i < length order → (i < k) ⊎ (last ≤ i) → get_or place (get_or order i 0 - 1) 0 ≡ i
+  pub reported : (i : ℕ) → i < length order → (i < k) ⊎ (last ≤ i) → get_or place (get_or order i 0 - 1) 0 ≡ i
 
 -- no position of a tour has been written yet
 pub Renumbering-none : (xs place : List ℕ) → IsTour (length xs) xs → length place ≡ length xs →
@@ -27,7 +27,7 @@ Renumbering-none xs place tour l =
           (λ (a : j ≤ i). ⊎_elim (λ (b : j < i). absurd (places_differ xs j i once b li (sym e)))
           (λ (b : i ≤ j). omega (arith, a, b)) (cases_lt j i))
           (cases_lt i j);
-      told = λ i li side. absurd (omega arith);
+      reported = λ i li side. absurd (omega arith);
     }
 
 pub Renumbering-more : (order place : List ℕ) (k last : ℕ) → Renumbering order place k last → k < length order →
@@ -38,7 +38,7 @@ Renumbering-more order place k last h lt =
       size = length-set place (get_or order k 0 - 1) k ∙ h.size;
       cities = h.cities;
       apart = h.apart;
-      told = λ i li side.
+      reported = λ i li side.
           ⊎_elim
           (λ (e : i ≡ k). ap (λ v. get_or (set place (get_or order k 0 - 1) k) (get_or order v 0 - 1) 0) e
           ∙ get_or-set_same place (get_or order k 0 - 1) k 0 (omega (arith, h.size, at)) ∙ sym e)
@@ -47,7 +47,7 @@ Renumbering-more order place k last h lt =
           λ e. ne (h.apart i k li lt (omega (arith, e, at, h.cities i li))) in
           let before : (i < k) ⊎ (last ≤ i) =
           ⊎_elim (λ (a : i < k + 1). inl (omega (arith, a, ne))) (λ (b : last ≤ i). inr b) side in
-          get_or-set_other place (get_or order k 0 - 1) (get_or order i 0 - 1) k 0 other ∙ h.told i li before)
+          get_or-set_other place (get_or order k 0 - 1) (get_or order i 0 - 1) k 0 other ∙ h.reported i li before)
           (cases_eq i k);
     }
 
@@ -59,6 +59,6 @@ Renumbering-all order place k last h le = (
   λ i li. let at = h.cities i li in (
     at.0,
     at.1,
-    h.told i li (⊎_elim (λ (a : i < k). inl a) (λ (b : k ≤ i). inr (omega (arith, b, le))) (cases_lt i k)),
+    h.reported i li (⊎_elim (λ (a : i < k). inl a) (λ (b : k ≤ i). inr (omega (arith, b, le))) (cases_lt i k)),
   ),
 )

@@ -122,7 +122,7 @@ Renumbering-begin first count xs place le inverse =
           let one : s.place ≡ t.place = sym (inverse.1 s.place s.within).2
           ∙ ap (λ v. get_or place (v - 1) 0) (sym s.same ∙ same ∙ t.same) ∙ (inverse.1 t.place t.within).2 in
           omega (arith, one, s.stands, t.stands);
-      told = λ i li side.
+      reported = λ i li side.
           let s = at i li in
           ap (λ v. get_or place (v - 1) 0) s.same ∙ (inverse.1 s.place s.within).2 ∙ omega (arith, s.stands, side);
     }

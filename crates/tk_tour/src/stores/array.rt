@@ -6,7 +6,7 @@ ghost use Rattle.tk_tour.specs.Reversal.{IsInverse, reversed_places};
 ghost use Rattle.tk_tour.specs.Counters.{saturated};
 
 use crate::fault::TourFault;
-use crate::sides::{Placed, shorter_side};
+use crate::sides::{Positions, shorter_side};
 use crate::store::{Flip, TourStore};
 use crate::stores::placing::place_each;
 use crate::stores::reversal::reverse_places;
@@ -29,7 +29,7 @@ pub struct ArrayTour {
     ghost fits: { (swaps < 2 ^ 64) × (undo_swaps < 2 ^ 64) × (flips < 2 ^ 64) },
 }
 
-impl Placed for ArrayTour {
+impl Positions for ArrayTour {
     ghost use Rattle.tk_tour.specs.ArrayTours.{order_of};
 
     ghost cities = { order_of };

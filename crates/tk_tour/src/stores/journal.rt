@@ -6,7 +6,7 @@ ghost use Rattle.tk_tour.specs.Counters.{saturated};
 ghost use Rattle.tk_tour.specs.Journal.{AreFlipsOf, swaps_to_undo};
 ghost use Rattle.tk_tour.specs.Tour.{IsSizedTour};
 
-use crate::store::{Around, Flip, TourStore};
+use crate::store::{Flip, Neighbourhood, TourStore};
 use crate::stores::array::ArrayTour;
 use crate::undo::UndoStore;
 use std::alloc::{AllocError, Global};
@@ -66,12 +66,12 @@ impl<S: UndoStore> TourStore for JournalTour<S> {
         self.tour.prev(c)
     }
 
-    fn beside(&self, c: u32) -> (u32, u32) {
-        self.tour.beside(c)
+    fn neighbours(&self, c: u32) -> (u32, u32) {
+        self.tour.neighbours(c)
     }
 
-    fn around(&self, c: u32) -> Around {
-        self.tour.around(c)
+    fn neighbourhood(&self, c: u32) -> Neighbourhood {
+        self.tour.neighbourhood(c)
     }
 
     fn at(&self, k: u32) -> u32 {

@@ -2,8 +2,8 @@
 ghost use Rattle.std.specs.Prelude.{◌≤◌};
 ghost use Rattle.tk_problem.specs.declared.limits.TheConstants.{CITY_LIMIT};
 
-use crate::given::near_of;
-use crate::metric::lists::{expect_lists, near_by_sweep};
+use crate::given::{expect_list, near_of};
+use crate::metric::lists::near_by_sweep;
 use std::alloc::Global;
 use std::process::Abort;
 use tk_metric::{Metric, Planar};
@@ -72,8 +72,8 @@ static LISTS: [u32; 24] = [
 
 /// Checks that the near lists by a scan and by a sweep are these.
 fn expect_both<P: Planar>(rt: &impl Abort, alloc: Global, metric: &P, want: &[u32]) {
-    expect_lists(rt, &near_of(rt, alloc, metric, 2), want);
-    expect_lists(rt, &near_by_sweep(rt, alloc, metric, 2), want);
+    expect_list(rt, near_of(rt, alloc, metric, 2).entries(), want);
+    expect_list(rt, near_by_sweep(rt, alloc, metric, 2).entries(), want);
 }
 
 #[test]

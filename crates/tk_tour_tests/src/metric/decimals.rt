@@ -10,7 +10,7 @@ use tk_text::{PlaneKind, Point, Points, Unit};
 /// A point whose coordinates are not all whole numbers of a unit.
 const SPECK: Point = Point { x: 1, y: 0 };
 
-const KINDS: [PlaneKind; 5] = [
+static KINDS: [PlaneKind; 5] = [
     PlaneKind::Euc2d,
     PlaneKind::Ceil2d,
     PlaneKind::Man2d,

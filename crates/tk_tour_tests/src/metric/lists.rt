@@ -7,7 +7,7 @@ use crate::places::{PART, SQUARE, WHOLE, places, planes_of, random_places};
 use std::alloc::Global;
 use std::process::Abort;
 use tk_metric::{
-    BothAxes, Metric, Near, Planar, Planes, Sub, Table, Turned, near_among, near_lists,
+    BothAxes, Metric, Near, Planar, Planes, Sub, SwappedAxes, Table, near_among, near_lists,
     near_lists_agree, near_sweep, near_tree,
 };
 use tk_text::PlaneKind;
@@ -47,57 +47,33 @@ fn near_of_table(rt: &impl Abort, alloc: Global, planes: Planes<'_>, k: u32) -> 
     near_lists(alloc, &Table::Planes(planes), k).expect(rt, "memory for near lists")
 }
 
-/// Checks that the near lists of all cities are these, one after another.
-pub fn expect_lists(rt: &impl Abort, near: &Near, want: &[u32]) {
-    let width = near.width() as usize;
-    expect(rt, want.len() == near.size() as usize * width);
-    for c in 1..near.size() + 1 {
-        let from = (c as usize - 1) * width;
-        expect_list(rt, near.of(c), want.get(from..from + width).unwrap_or(&[]));
-    }
-}
-
-/// Checks that both have the same near lists.
-fn expect_same(rt: &impl Abort, near: &Near, other: &Near) {
-    expect(rt, near.size() == other.size());
-    for c in 1..near.size() + 1 {
-        expect_list(rt, near.of(c), other.of(c));
-    }
-}
-
-/// The near lists by a scan. Checks that those by a sweep along x and by a tree are the same; for the tree, this
-/// follows from the law that near lists agree.
-fn lists_in_plane<P: BothAxes>(rt: &impl Abort, alloc: Global, metric: &P, k: u32) -> Near {
+/// Checks that the near lists by a scan, by a tree and by a sweep along x are these, one after another. Those by a scan
+/// and by a tree are equal by the law that near lists agree.
+fn expect_in_plane<P: BothAxes>(rt: &impl Abort, alloc: Global, metric: &P, k: u32, want: &[u32]) {
     let scanned = near_of(rt, alloc, metric, k);
     let found = near_by_tree(rt, alloc, metric, k);
     for c in 1..metric.size() + 1 {
         near_lists_agree(metric, c, k, found.of(c), scanned.of(c));
     }
-    expect_same(rt, &found, &scanned);
-    expect_same(rt, &near_by_sweep(rt, alloc, metric, k), &scanned);
-    scanned
+    expect_list(rt, scanned.entries(), want);
+    expect_list(rt, found.entries(), want);
+    expect_list(rt, near_by_sweep(rt, alloc, metric, k).entries(), want);
 }
 
-/// Like `lists_in_plane`, for points; also checks that the near lists of a table are the same.
-fn lists_of_places(rt: &impl Abort, alloc: Global, planes: &Planes<'_>, k: u32) -> Near {
-    let scanned = lists_in_plane(rt, alloc, planes, k);
-    expect_same(rt, &near_of_table(rt, alloc, *planes, k), &scanned);
-    scanned
+/// Like `expect_in_plane`, along x and along y; also checks that the near lists of a table are these.
+fn expect_near(rt: &impl Abort, alloc: Global, planes: &Planes<'_>, k: u32, want: &[u32]) {
+    expect_in_plane(rt, alloc, planes, k, want);
+    expect_in_plane(rt, alloc, &SwappedAxes(planes), k, want);
+    expect_list(rt, near_of_table(rt, alloc, *planes, k).entries(), want);
 }
 
 /// A distance type; corners as whole numbers of a unit, and this unit; the length of the near lists; and all lists, one
 /// after another.
 type Row<'a> = (PlaneKind, &'a [(u16, u16)], u32, u32, &'a [u32]);
 
-/// Checks that the near lists are these, along x and along y.
-fn expect_along_both(rt: &impl Abort, alloc: Global, planes: &Planes<'_>, k: u32, want: &[u32]) {
-    expect_lists(rt, &lists_of_places(rt, alloc, planes, k), want);
-    expect_lists(rt, &lists_in_plane(rt, alloc, &Turned(planes), k), want);
-}
-
 fn expect_row(rt: &impl Abort, alloc: Global, row: &Row<'_>) {
     let points = places(rt, alloc, row.1, row.2);
-    expect_along_both(rt, alloc, &planes_of(rt, row.0, &points), row.3, row.4);
+    expect_near(rt, alloc, &planes_of(rt, row.0, &points), row.3, row.4);
 }
 
 fn expect_rows(rt: &impl Abort, alloc: Global, rows: &[Row<'_>]) {
@@ -106,7 +82,7 @@ fn expect_rows(rt: &impl Abort, alloc: Global, rows: &[Row<'_>]) {
     }
 }
 
-static EQUAL: [Row<'static>; 6] = [
+static EQUAL: [Row<'static>; 7] = [
     (PlaneKind::Euc2d, &[(0, 0), (5, 0)], PART, 1, &[2, 1]),
     (
         PlaneKind::Euc2d,
@@ -143,36 +119,30 @@ static EQUAL: [Row<'static>; 6] = [
         2,
         &[3, 2, 3, 1, 1, 2],
     ),
+    // a tree splits between 5 and 6, which are as near to each other as to 4 and 7
+    (
+        PlaneKind::Euc2d,
+        &[
+            (0, 0),
+            (1, 0),
+            (2, 0),
+            (3, 0),
+            (4, 0),
+            (5, 0),
+            (6, 0),
+            (7, 0),
+            (8, 0),
+            (9, 0),
+        ],
+        WHOLE,
+        2,
+        &[2, 3, 1, 3, 2, 4, 3, 5, 4, 6, 5, 7, 6, 8, 7, 9, 8, 10, 9, 8],
+    ),
 ];
 
 #[test]
 fn equal_distances(rt: HostRuntime) {
     expect_rows(&rt, rt.alloc(), &EQUAL);
-}
-
-/// A tree splits between 5 and 6, which are as near to each other as to 4 and 7.
-static CUT: Row<'static> = (
-    PlaneKind::Euc2d,
-    &[
-        (0, 0),
-        (1, 0),
-        (2, 0),
-        (3, 0),
-        (4, 0),
-        (5, 0),
-        (6, 0),
-        (7, 0),
-        (8, 0),
-        (9, 0),
-    ],
-    WHOLE,
-    2,
-    &[2, 3, 1, 3, 2, 4, 3, 5, 4, 6, 5, 7, 6, 8, 7, 9, 8, 10, 9, 8],
-);
-
-#[test]
-fn a_cut_between_equal_distances(rt: HostRuntime) {
-    expect_row(&rt, rt.alloc(), &CUT);
 }
 
 const CORNERS: &[(u16, u16)] = &[(0, 0), (3, 4), (5, 0)];
@@ -215,11 +185,8 @@ static AMONG: [Among<'static>; 5] = [
 /// Checks the near lists among the first elements.
 fn expect_among<M: Metric>(rt: &impl Abort, alloc: Global, metric: &M, rows: &[Among<'_>]) {
     for row in rows {
-        expect_lists(
-            rt,
-            &near_among_first(rt, alloc, metric, row.0, row.1),
-            row.2,
-        );
+        let near = near_among_first(rt, alloc, metric, row.0, row.1);
+        expect_list(rt, near.entries(), row.2);
     }
 }
 
@@ -265,7 +232,9 @@ static BOXES: [Boxed; 11] = [
 /// Checks that the near lists of 300 points in a box agree.
 fn expect_agreed(rt: &impl Abort, alloc: Global, row: &Boxed) {
     let points = random_places(rt, alloc, row.1, row.2);
-    let _lists = lists_of_places(rt, alloc, &planes_of(rt, row.0, &points), row.3);
+    let planes = planes_of(rt, row.0, &points);
+    let near = near_of_table(rt, alloc, planes, row.3);
+    expect_in_plane(rt, alloc, &planes, row.3, near.entries());
 }
 
 #[test]

@@ -8,18 +8,18 @@ use std::process::Abort;
 use tk_build::{Cuts, kick};
 use tk_tour::TourStore;
 
+/// Checks the cuts that a generator with this seed draws for twelve cities, and the word that it draws next.
+fn expect_cuts(rt: &impl Abort, seed: u64, want: Cuts, next: u32) {
+    let mut rng = Pcg32::seed_from_u64(seed);
+    expect(rt, Cuts::draw(&mut rng, 12) == want);
+    expect(rt, rng.next_u32() == next);
+}
+
 #[test]
 fn draws_cuts_by_the_words(rt: HostRuntime) {
-    // the first word of each row does not decide the first cut; with the second, it is rounded down, or up by a carry
-    let rows = [
-        (14042044, Cuts { p: 2, q: 4, r: 9 }, 2671601159),
-        (432574943, Cuts { p: 9, q: 10, r: 11 }, 3619262728),
-    ];
-    for (seed, want, next) in rows {
-        let mut rng = Pcg32::seed_from_u64(seed);
-        expect(&rt, Cuts::draw(&mut rng, 12) == want);
-        expect(&rt, rng.next_u32() == next);
-    }
+    // the first word does not decide the first cut; with the second, it is rounded down, or up by a carry
+    expect_cuts(&rt, 14042044, Cuts { p: 2, q: 4, r: 9 }, 2671601159);
+    expect_cuts(&rt, 432574943, Cuts { p: 9, q: 10, r: 11 }, 3619262728);
 }
 
 /// Checks that these cuts of eight cities in their order have these ends, and that a kick leads to this tour.

@@ -52,7 +52,7 @@ fn expect_same_order<S: TourStore, T: TourStore>(rt: &impl Abort, one: &S, other
         expect(rt, one.at(k) == other.at(k));
         expect(rt, one.next(k) == other.next(k));
         expect(rt, one.prev(k) == other.prev(k));
-        expect(rt, one.around(k) == other.around(k));
+        expect(rt, one.neighbourhood(k) == other.neighbourhood(k));
     }
 }
 
@@ -214,9 +214,9 @@ fn journal_of_segments(
 
 /// Makes three flips, one of which does not fit into a journal of two.
 fn lose_flips(rt: &impl Abort, tour: &mut JournalTour<SegmentTour>) {
-    for (a, c) in [(6, 4), (3, 2), (8, 5)] {
-        let _ = flip_after(rt, tour, a, c);
-    }
+    let _ = flip_after(rt, tour, 6, 4);
+    let _ = flip_after(rt, tour, 3, 2);
+    let _ = flip_after(rt, tour, 8, 5);
     expect(rt, tour.lost());
     expect(rt, !tour.rewind());
     expect(rt, tour.tour().segments() > 1);

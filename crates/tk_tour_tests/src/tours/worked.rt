@@ -24,6 +24,7 @@ fn expect_undone(rt: &impl Abort, tour: &mut ArrayTour, flip: Flip, order: &[u32
     expect(rt, flip.first <= n);
     expect(rt, flip.count <= n);
     tour.undo(&flip);
+    let tour = &*tour;
     expect_list(rt, tour.order(), cities);
     expect(rt, tour.swaps() == 1);
     expect(rt, tour.undo_swaps() == 1);
@@ -123,6 +124,7 @@ fn expect_copied(rt: &impl Abort, tour: &mut ArrayTour, other: &ArrayTour) {
     expect(rt, tour.size() == 4);
     expect(rt, other.size() == 4);
     tour.copy_from(other);
+    let tour = &*tour;
     expect_list(rt, tour.order(), other.order());
     expect(rt, tour.copied() == 4);
     expect(rt, tour.at(2) == 2);
@@ -142,6 +144,7 @@ fn copies(rt: HostRuntime) {
 fn flip_twice(rt: &impl Abort, tour: &mut JournalTour<ArrayTour>) {
     let _ = flip_after(rt, tour, 1, 7);
     let _ = flip_after(rt, tour, 2, 4);
+    let tour = &*tour;
     expect_list(rt, tour.tour().order(), &[8, 2, 4, 3, 5, 6, 7, 1]);
     expect(rt, tour.flips() == 2);
 }
@@ -150,6 +153,7 @@ fn flip_twice(rt: &impl Abort, tour: &mut JournalTour<ArrayTour>) {
 fn expect_rewound(rt: &impl Abort, tour: &mut JournalTour<ArrayTour>) {
     flip_twice(rt, tour);
     expect(rt, tour.rewind());
+    let tour = &*tour;
     expect(rt, tour.flips() == 0);
     expect_list(rt, tour.tour().order(), &EIGHT);
     expect(rt, tour.tour().undo_swaps() == 2);
@@ -177,6 +181,7 @@ fn expect_restored(rt: &impl Abort, tour: &mut JournalTour<ArrayTour>, start: &A
     expect(rt, tour.size() == 8);
     expect(rt, start.size() == 8);
     tour.restore(start);
+    let tour = &*tour;
     expect_list(rt, tour.tour().order(), &EIGHT);
     expect(rt, tour.tour().copied() == 8);
     expect(rt, !tour.lost());

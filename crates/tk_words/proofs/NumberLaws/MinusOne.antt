@@ -6,7 +6,7 @@ use Rattle.std.proofs.lemmas.List.{length-append}
 use Rattle.std.proofs.lemmas.Bool.{cases_lt, cond_both, eqb-true, false_from_ne_true, true_from_ne_false, lt-ltb}
 use Rattle.tk_words.specs.Lex.{digits, natural, signed, integer}
 use Rattle.tk_words.specs.MinusOne.{is_minus_one, begins_minus_one}
-use Rattle.tk_words.proofs.Bools.{or_true}
+use Rattle.tk_words.proofs.BoolLaws.{or_true}
 use Rattle.tk_words.proofs.NumberLaws.Numbers.{digits-first, digits-rest, digits_join, natural-digits, natural-parts}
 
 -- the number of the first bytes of some

@@ -6,7 +6,7 @@ ghost use Rattle.tk_words.specs.MinusOne.{is_minus_one, begins_minus_one};
 ghost use Rattle.tk_words.specs.Entry as Tokens;
 ghost use Rattle.tk_words.specs.Entry.{IsEntry};
 
-use crate::held::{Held, letter};
+use crate::byte_buffer::{ByteBuffer, letter};
 use crate::keyword::{Keyword, keyword_of};
 use crate::numbers::integers::integer;
 
@@ -34,7 +34,7 @@ pub fn minus_one(bytes: &[u8]) -> bool
 }
 
 /// Whether these bytes are -1, or become -1 if a 1 follows them.
-pub fn begins_minus_one(held: &Held<64>) -> bool
+pub fn begins_minus_one(held: &ByteBuffer<64>) -> bool
     requires room { length held.now < 64 }
     ensures { result ≡ begins_minus_one held.now }
 {

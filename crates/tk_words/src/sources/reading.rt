@@ -3,7 +3,7 @@ ghost use Rattle.std.specs.Prelude.{◌≡◌, ℕ, ◌+◌, ◌<◌, ◌≤◌,
 ghost use Rattle.tk_words.specs.Reading.{HasTakenPiece, IsReading};
 
 use crate::sources::source::Source;
-use crate::sources::text_reader::{Step, TextReader};
+use crate::sources::text_reader::{FeedResult, TextReader};
 
 /// Maximum number of bytes that a source is asked for at once.
 pub const BUFFER_SIZE: usize = 8192;
@@ -29,8 +29,8 @@ pub fn feed_piece<P: TextReader>(
     let mut start = 0;
     while start < end {
         match reader.feed(&piece[start..end])? {
-            Step::Done => return Ok(true),
-            Step::Taken(count) => start += count,
+            FeedResult::Done => return Ok(true),
+            FeedResult::Taken(count) => start += count,
         }
     }
     if end == piece.len() {
@@ -38,8 +38,8 @@ pub fn feed_piece<P: TextReader>(
     }
     let fault = reader.too_long();
     match reader.feed(&piece[end..end + 1])? {
-        Step::Done => Ok(true),
-        Step::Taken(_) => Err(fault),
+        FeedResult::Done => Ok(true),
+        FeedResult::Taken(_) => Err(fault),
     }
 }
 

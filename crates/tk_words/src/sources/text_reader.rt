@@ -5,7 +5,7 @@ ghost use Rattle.tk_words.specs.Taking.{HasTaken, HasEnded};
 
 /// The result of passing bytes to a reader.
 #[derive(Clone, Copy)]
-pub enum Step {
+pub enum FeedResult {
     /// The reader has taken this many of them, and the text continues.
     Taken(usize),
     /// They complete the text.
@@ -42,7 +42,7 @@ pub trait TextReader: Drop {
     ///
     /// # Errors
     /// The fault that the text contains, up to one of these bytes.
-    fn feed(&mut self, bytes: &[u8]) -> Result<Step, Self::Fault>
+    fn feed(&mut self, bytes: &[u8]) -> Result<FeedResult, Self::Fault>
         requires some { 1 ≤ length bytes.now }
         requires room { (before : List ℕ) × fed self.old before × (length before + length bytes.now ≤ 2 ^ 63) }
         ensures { (before : List ℕ) → fed self.old before
@@ -75,7 +75,7 @@ pub trait TextReader: Drop {
         ensures line { (before : List ℕ) → fed self.now before → texts.line_of result ≡ line_behind before };
 
     /// The fault of a text that is too long is one of the text itself.
-    ghost too_long_told: { (line : ℕ) → texts.cause (texts.too_long line) ≡ OfText };
+    ghost too_long_reported: { (line : ℕ) → texts.cause (texts.too_long line) ≡ OfText };
 
     /// The reader needs more bytes: those that it has taken do not decide the answer.
     ghost waits: { (reader : Self) (before : List ℕ) → fed reader before → texts.decided false before ≡ None };

@@ -17,8 +17,8 @@ use Rattle.tk_problem_text.specs.Names.{IsName}
 use Rattle.tk_lines.specs.HeaderValue.{first_word, not_blank}
 use Rattle.tk_words.specs.Words.{keyword_of}
 use Rattle.tk_lines.proofs.Sections.MiddleOfSection.{run_head}
-use Rattle.tk_lines.proofs.Lines.{OnOneLine}
-use Rattle.tk_writers.proofs.Saying.{Head, head_value, head_piece, head_pieces, AreHeads, one_line, name_line}
+use Rattle.tk_lines.proofs.KnownWordLines.{OnOneLine}
+use Rattle.tk_writers.proofs.WrittenLines.{Head, head_value, head_piece, head_pieces, AreHeads, one_line, name_line}
 use Rattle.tk_writers.proofs.Written.WrittenNumbers.{IsShort, decimal_line, decimal_run, integer_decimal, short_decimal}
 
 -- ---- the headers

@@ -12,7 +12,7 @@ use Rattle.tk_writers.specs.Written.{line, spaced_numbers}
 use Rattle.tk_lines.proofs.MiddleOfLine.{lines-byte, lines-LF}
 use Rattle.tk_lines.proofs.Sections.MiddleOfSection.{cut-covered}
 use Rattle.tk_lines.proofs.Sections.SectionEnds.{last_line-append}
-use Rattle.tk_lines.proofs.Lines.{OnOneLine}
+use Rattle.tk_lines.proofs.KnownWordLines.{OnOneLine}
 use Rattle.tk_writers.proofs.Written.WrittenNumbers.{AllShort, number_token, numbers_line, numbers_tokens}
 use Rattle.tk_writers.proofs.Written.WrittenNumbers.{integer_decimal, short_decimal}
 

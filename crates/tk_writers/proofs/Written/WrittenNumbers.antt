@@ -10,7 +10,7 @@ use Rattle.std.proofs.lemmas.List.{append-nil}
 use Rattle.tk_words.specs.Lex.{Token, is_blank, is_empty, digits, integer, tokens_of, IsUnbroken}
 use Rattle.tk_writers.specs.Written.{spaced_numbers}
 use Rattle.tk_lines.proofs.Sections.MiddleOfSection.{token, tokens_of-run, tokens_of-last}
-use Rattle.tk_lines.proofs.Lines.{OnOneLine}
+use Rattle.tk_lines.proofs.KnownWordLines.{OnOneLine}
 
 -- ---- digits
 

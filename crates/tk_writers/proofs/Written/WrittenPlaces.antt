@@ -7,7 +7,7 @@ use Rattle.std.proofs.lemmas.List.Folds.{flat_map-map}
 use Rattle.std.proofs.lemmas.List.FromFn.{length-range_with_len}
 use Rattle.std.specs.Prelude.{flat_map}
 use Rattle.std.specs.List.{AllByRecursion, range_with_len}
-use Rattle.tk_problem.specs.declared.place.Place.{Place}
+use Rattle.tk_problem.specs.declared.cell.Cell.{Cell}
 use Rattle.tk_problem.specs.declared.weights.Format.{Format}
 use Rattle.tk_problem.specs.declared.weights.Format.TheVariants as formats
 use Rattle.tk_writers.specs.FormatLines.{line_places, on_line}
@@ -22,7 +22,7 @@ use Rattle.tk_writers.proofs.Written.WrittenNumbers.{IsShort, AllShort}
 use Rattle.tk_writers.proofs.Written.WrittenLines.{in_rows, ShortRows}
 
 -- a table at a place, whose rows and columns count from 0
-abbrev pub at_place : (ℕ → ℕ → ℕ) → Place → ℕ
+abbrev pub at_place : (ℕ → ℕ → ℕ) → Cell → ℕ
 at_place table p = table (suc p.row) (suc p.column)
 
 same_range : (xs : List ℕ) (a b c d : ℕ) → xs ≡ range_with_len a c → a ≡ b → c ≡ d → xs ≡ range_with_len b d

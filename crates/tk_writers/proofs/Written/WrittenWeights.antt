@@ -10,7 +10,7 @@ use Rattle.std.proofs.lemmas.List.Folds.{list_any-append, list_any_at}
 use Rattle.std.proofs.lemmas.List.FromFn.{length-map-range_with_len, get_or-map-range_with_len}
 use Rattle.std.proofs.lemmas.List.Sums.{sum_by-cons}
 use Rattle.tk_problem.specs.declared.limits.TheConstants.{DISTANCE_LIMIT}
-use Rattle.tk_problem.specs.declared.place.Place.{Place}
+use Rattle.tk_problem.specs.declared.cell.Cell.{Cell}
 use Rattle.tk_problem.specs.declared.weights.Format.{Format}
 use Rattle.tk_problem.specs.declared.weights.Format.TheVariants as formats
 use Rattle.tk_words.specs.Lex.{Token}
@@ -24,8 +24,8 @@ use Rattle.tk_problem_text.specs.Sections.WeightSection.{weights_in, is_full, pl
 use Rattle.tk_problem_text.proofs.SectionTokens.FixedSections.{checked-ready, at_once, tokens_stop-none, IsReady}
 use Rattle.tk_words.proofs.NoWord.{integer-no_word}
 use Rattle.tk_problem.proofs.PairWeights.{origin, order-within, IsWithin, two_ways, same_number, is_of-above}
-use Rattle.tk_words.proofs.Bools.{or_true}
-use Rattle.tk_problem.proofs.Triangle.{place-lower, length-lower}
+use Rattle.tk_words.proofs.BoolLaws.{or_true}
+use Rattle.tk_problem.proofs.LowerTriangle.{place-lower, length-lower}
 use Rattle.tk_problem.proofs.WeightCounts.{flat_map-suc, pair-order}
 use Rattle.tk_problem_text.proofs.SectionTokens.WeightTokens.{weight_on_diagonal, weight_once, weight_same}
 use Rattle.tk_writers.proofs.Written.WrittenLines.{IsWritten, AreWritten}
@@ -33,19 +33,19 @@ use Rattle.tk_writers.proofs.Written.WrittenPlaces.{at_place, triangle-order}
 
 -- ---- a pair among places
 
-any_front : (p : Place → Bool) (xs ys : List Place) → list_any p xs ≡ true → list_any p (xs ++ ys) ≡ true
+any_front : (p : Cell → Bool) (xs ys : List Cell) → list_any p xs ≡ true → list_any p (xs ++ ys) ≡ true
 any_front p xs ys h = rw (list_any-append p xs ys, h) refl
 
-any_behind : (p : Place → Bool) (xs ys : List Place) → list_any p ys ≡ true → list_any p (xs ++ ys) ≡ true
+any_behind : (p : Cell → Bool) (xs ys : List Cell) → list_any p ys ≡ true → list_any p (xs ++ ys) ≡ true
 any_behind p xs ys h = rw (list_any-append p xs ys, h) (or_true (list_any p xs))
 
-any_on_line : (p : Place → Bool) (h : ℕ → Place) (s c m : ℕ) → s ≤ m → m < s + c → p (h m) ≡ true →
+any_on_line : (p : Cell → Bool) (h : ℕ → Cell) (s c m : ℕ) → s ≤ m → m < s + c → p (h m) ≡ true →
     list_any p (map h (range_with_len s c)) ≡ true
 any_on_line p h s c m low high hit =
     list_any_at p (map h (range_with_len s c)) (m - s) origin (omega (arith, length-map-range_with_len h s c))
     (ap p (get_or-map-range_with_len h s c (m - s) m origin (omega arith) (omega arith)) ∙ hit)
 
-any_of_lines : (p : Place → Bool) (g : ℕ → List Place) (s c k : ℕ) → s ≤ k → k < s + c → list_any p (g k) ≡ true →
+any_of_lines : (p : Cell → Bool) (g : ℕ → List Cell) (s c k : ℕ) → s ≤ k → k < s + c → list_any p (g k) ≡ true →
     list_any p (flat_map g (range_with_len s c)) ≡ true
 any_of_lines p g s zero k low high hit = absurd (omega arith)
 any_of_lines p g s (suc c) k low high hit =
@@ -55,7 +55,7 @@ any_of_lines p g s (suc c) k low high hit =
           (any_of_lines p g (s + 1) c k (omega arith) (omega arith) hit)
     ]
 
-any_counted : (p : Place → Bool) (xs : List Place) → 0 < count_by p xs → list_any p xs ≡ true
+any_counted : (p : Cell → Bool) (xs : List Cell) → 0 < count_by p xs → list_any p xs ≡ true
 any_counted p [] h = absurd (omega arith)
 any_counted p (x ∷ xs) h = by_test (p x) (any_counted p xs) (omega (arith, h, sum_by-cons (λ q. cond (p q) 1 0) x xs))
   where
@@ -71,11 +71,11 @@ some_times _ = omega arith
 -- ---- the weight of a pair
 
 -- entries of a table
-abbrev filled : (ℕ → ℕ → ℕ) → List Place → List (Place × ℕ)
+abbrev filled : (ℕ → ℕ → ℕ) → List Cell → List (Cell × ℕ)
 filled table ps = zip ps (map (at_place table) ps)
 
 module _ (table : ℕ → ℕ → ℕ) (i j : ℕ) (same : table (suc j) (suc i) ≡ table (suc i) (suc j)) where
-  hit_value : (p : Place) → is_of i j p ≡ true → at_place table p ≡ table (suc i) (suc j)
+  hit_value : (p : Cell) → is_of i j p ≡ true → at_place table p ≡ table (suc i) (suc j)
   hit_value p e =
       elim (two_ways (eqb p.row i) (eqb p.column j) (eqb p.row j) (eqb p.column i) e) as (λ _. at_place table p ≡ table
       (suc i) (suc j)) [
@@ -85,10 +85,10 @@ module _ (table : ℕ → ℕ → ℕ) (i j : ℕ) (same : table (suc j) (suc i)
             ∙ ap (λ c. table (suc j) (suc c)) (same_number p.column i h.1) ∙ same
       ]
 
-  abbrev weight_behind : ℕ → List Place → ℕ
+  abbrev weight_behind : ℕ → List Cell → ℕ
   weight_behind w ps = fold (λ w e. cond (is_of i j e.0) e.1 w) w (filled table ps)
 
-  stays : (ps : List Place) → weight_behind (table (suc i) (suc j)) ps ≡ table (suc i) (suc j)
+  stays : (ps : List Cell) → weight_behind (table (suc i) (suc j)) ps ≡ table (suc i) (suc j)
   stays [] = refl
   stays (p ∷ ps) = by_test (is_of i j p) refl (stays ps)
     where
@@ -97,7 +97,7 @@ module _ (table : ℕ → ℕ → ℕ) (i j : ℕ) (same : table (suc j) (suc i)
       by_test true e ih = ap (λ w. weight_behind w ps) (hit_value p e) ∙ ih
       by_test false e ih = ih
 
-  found : (w : ℕ) (ps : List Place) → list_any (is_of i j) ps ≡ true → weight_behind w ps ≡ table (suc i) (suc j)
+  found : (w : ℕ) (ps : List Cell) → list_any (is_of i j) ps ≡ true → weight_behind w ps ≡ table (suc i) (suc j)
   found w [] h = absurd cc
   found w (p ∷ ps) h = by_test (is_of i j p) refl (found w ps) h
     where
@@ -107,18 +107,18 @@ module _ (table : ℕ → ℕ → ℕ) (i j : ℕ) (same : table (suc j) (suc i)
       by_test true e ih k = ap (λ v. weight_behind v ps) (hit_value p e) ∙ stays ps
       by_test false e ih k = ih k
 
-  weight_found : (ps : List Place) → list_any (is_of i j) ps ≡ true →
+  weight_found : (ps : List Cell) → list_any (is_of i j) ps ≡ true →
       weight_of i j (filled table ps) ≡ table (suc i) (suc j)
   weight_found ps h = found 0 ps h
 
-zip_front : (ps qs : List Place) (g : Place → ℕ) → zip (ps ++ qs) (map g ps) ≡ zip ps (map g ps)
+zip_front : (ps qs : List Cell) (g : Cell → ℕ) → zip (ps ++ qs) (map g ps) ≡ zip ps (map g ps)
 zip_front [] [] g = refl
 zip_front [] (q ∷ qs) g = refl
 zip_front (p ∷ ps) qs g = ap (λ es. (p, g p) ∷ es) (zip_front ps qs g)
 
 -- ---- the weights below the diagonal
 
-map_same : (g h : Place → ℕ) (ps : List Place) →
+map_same : (g h : Cell → ℕ) (ps : List Cell) →
     ((k : ℕ) → k < length ps → g (get_or ps k origin) ≡ h (get_or ps k origin)) → map g ps ≡ map h ps
 map_same g h [] same = refl
 map_same g h (p ∷ ps) same = ap (λ v. v ∷ map g ps) (same 0 (omega arith))
@@ -132,7 +132,7 @@ module _ (n : ℕ) (table : ℕ → ℕ → ℕ) (is_table : IsTable n table) wh
   lower_filled f =
       map_same (λ p. weight_of p.row p.column (filled table (order f n))) (at_place table)
       (order formats.LowerRow n) (λ k less.
-      let p : Place = get_or (order formats.LowerRow n) k origin in
+      let p : Cell = get_or (order formats.LowerRow n) k origin in
       let at = place-lower n k origin (omega (arith, less, length-lower n)) in
       let some : 0 < count_by (is_of p.row p.column) (order f n) =
       omega (arith, some_times f, pair-order f n p.row p.column at.0 at.1) in
@@ -148,27 +148,27 @@ module _ (n : ℕ) (table : ℕ → ℕ → ℕ) (is_table : IsTable n table) wh
 -- ---- the order of a full matrix: below the diagonal the other half has come before
 
 -- where a format writes a pair twice, its first entry is before this place
-abbrev Seen : Format → List Place → Place → Type 0
+abbrev Seen : Format → List Cell → Cell → Type 0
 Seen f before p = (is_full f && ltb p.column p.row) ≡ true → list_any (is_of p.row p.column) before ≡ true
 
-abbrev AllSeen : Format → List Place → List Place → Type 0
+abbrev AllSeen : Format → List Cell → List Cell → Type 0
 AllSeen f before [] = Unit {0}
 AllSeen f before (p ∷ ps) = Seen f before p × AllSeen f (before ++ p ∷ []) ps
 
-seen_append : (f : Format) (before xs ys : List Place) → AllSeen f before xs → AllSeen f (before ++ xs) ys →
+seen_append : (f : Format) (before xs ys : List Cell) → AllSeen f before xs → AllSeen f (before ++ xs) ys →
     AllSeen f before (xs ++ ys)
 seen_append f before [] ys h k = rw (← append-nil before) k
 seen_append f before (x ∷ xs) ys h k =
     (h.0, seen_append f (before ++ x ∷ []) xs ys h.1 (rw (append_assoc before (x ∷ []) xs) k))
 
-not_full : (f : Format) → is_full f ≡ false → (before ps : List Place) → AllSeen f before ps
+not_full : (f : Format) → is_full f ≡ false → (before ps : List Cell) → AllSeen f before ps
 not_full f other before [] = tt
 not_full f other before (p ∷ ps) = ((λ e. absurd (let k = rw other at e in cc)), not_full f other (before ++ p ∷ []) ps)
 
-abbrev full_row : ℕ → ℕ → List Place
+abbrev full_row : ℕ → ℕ → List Cell
 full_row n i = map (λ j. place i j) (range_with_len 0 n)
 
-seen_row : (i s c : ℕ) (before : List Place) → ((j : ℕ) → j < i → list_any (is_of i j) before ≡ true) →
+seen_row : (i s c : ℕ) (before : List Cell) → ((j : ℕ) → j < i → list_any (is_of i j) before ≡ true) →
     AllSeen formats.FullMatrix before (map (λ j. place i j) (range_with_len s c))
 seen_row i s zero before above = tt
 seen_row i s (suc c) before above = (
@@ -197,13 +197,13 @@ seen_order f n = not_full f refl [] (order f n)
 
 -- ---- the tests of the tokens
 
-at_length : (qs : List Place) (p : Place) (rs : List Place) → get_or (qs ++ p ∷ rs) (length qs) origin ≡ p
+at_length : (qs : List Cell) (p : Cell) (rs : List Cell) → get_or (qs ++ p ∷ rs) (length qs) origin ≡ p
 at_length [] p rs = refl
 at_length (q ∷ qs) p rs = at_length qs p rs
 
 module _ (n : ℕ) (table : ℕ → ℕ → ℕ) (is_table : IsTable n table) (f : Format) where
   -- one weight, after those of the places before
-  one_weight : (qs rs : List Place) (p : Place) (before : List Token) (t : Token) → order f n ≡ qs ++ p ∷ rs
+  one_weight : (qs rs : List Cell) (p : Cell) (before : List Token) (t : Token) → order f n ≡ qs ++ p ∷ rs
       → weights_in before ≡ map (at_place table) qs
       → IsWritten t (at_place table p) → IsWithin n p → Seen f qs p → first_at t.line (weight_tests n f before t) ≡ None
   one_weight qs rs p before t is numbers written within seen =
@@ -239,7 +239,7 @@ module _ (n : ℕ) (table : ℕ → ℕ → ℕ) (is_table : IsTable n table) (f
       by_place false off true e = let apart = eqb-false _ _ off in
           weight_same n f before t p here apart (at_place table p) written.is (small apart) (other_half e)
 
-  weights_pass : (qs rs : List Place) (before toks : List Token) → order f n ≡ qs ++ rs
+  weights_pass : (qs rs : List Cell) (before toks : List Token) → order f n ≡ qs ++ rs
       → weights_in before ≡ map (at_place table) qs
       → AreWritten toks (map (at_place table) rs) → All (IsWithin n) rs → AllSeen f qs rs →
       tokens_stop (weight_tests n f) before toks ≡ None

@@ -1,5 +1,5 @@
 //! The subcommand `explain`.
-use crate::explained_text::{Unread, read_explained};
+use crate::explained_text::{ReadFailure, read_explained};
 use crate::input::open;
 use crate::printed::print_bytes;
 use crate::refusal::{Misfit, Refusal};
@@ -7,7 +7,7 @@ use crate::shown::shown_on_output;
 use std::fs;
 use std::process::ExitCode;
 use tk_diagnosis::FileFault;
-use tk_explain::{fault_page, file_page, is_number, line_page, unread_fault};
+use tk_explain::{fault_page, file_page, is_number, line_page, read_failure};
 use tk_kinds::kind_of;
 
 /// `explain WHAT [LINE]`. Without a line, WHAT can be the number or the name of a fault; otherwise it is a file.
@@ -43,8 +43,8 @@ fn explain_file<'a>(
     let mut input = open(rt, name)?;
     match read_explained(rt.alloc(), name, line, &mut input) {
         Ok(text) => print_text(rt, name, &text, line),
-        Err(Unread::Failed(text)) => Err(unread(name, &text)),
-        Err(Unread::NoMemory) => Err(Refusal::NoMemory),
+        Err(ReadFailure::Failed(text)) => Err(unread(name, &text)),
+        Err(ReadFailure::NoMemory) => Err(Refusal::NoMemory),
     }
 }
 
@@ -65,7 +65,7 @@ fn print_text<'a>(
 
 /// The refusal of a file that could not be read to its end.
 fn unread<'a>(name: &'a str, text: &[u8]) -> Refusal<'a> {
-    match unread_fault(kind_of(text, name), text) {
+    match read_failure(kind_of(text, name), text) {
         FileFault::Text(fault) => Refusal::Text(name, fault),
         FileFault::Parameters(fault) => Refusal::Parameters(name, fault),
     }

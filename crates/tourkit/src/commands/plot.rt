@@ -3,7 +3,7 @@ use crate::commands::{check, checksol};
 use crate::input::{open, open_two};
 use crate::refusal::Refusal;
 use std::process::ExitCode;
-use tk_engines::{Form, Plotted, plot_engine};
+use tk_engines::{OutputFormat, Plotted, plot_engine};
 use tk_page::page_parts;
 use tk_words::{FromRead, Source};
 use tk_writers::ToWrite;
@@ -19,9 +19,9 @@ pub fn plot_command<'a>(
     html: bool,
 ) -> Result<ExitCode, Refusal<'a>> {
     let form = if html {
-        Form::Page(page_parts())
+        OutputFormat::Page(page_parts())
     } else {
-        Form::Svg
+        OutputFormat::Svg
     };
     let Some(claim_file) = claim_file else {
         return plot_alone(rt, problem_file, form);
@@ -41,7 +41,7 @@ pub fn plot_command<'a>(
 fn plot_alone<'a>(
     rt: &HostRuntime,
     problem_file: &'a str,
-    form: Form<'_>,
+    form: OutputFormat<'_>,
 ) -> Result<ExitCode, Refusal<'a>> {
     let problem = open(rt, problem_file)?;
     draw(
@@ -61,10 +61,10 @@ fn draw<'a, P: Source, C: Source>(
     problem_file: &'a str,
     claim: &mut C,
     claim_file: Option<&'a str>,
-    form: Form<'_>,
+    form: OutputFormat<'_>,
 ) -> Result<ExitCode, Refusal<'a>> {
     let mut out = ToWrite::new(rt.stdout());
-    let mut told = ToWrite::new(rt.stderr());
+    let mut reported = ToWrite::new(rt.stderr());
     match plot_engine(
         rt.alloc(),
         problem,
@@ -72,7 +72,7 @@ fn draw<'a, P: Source, C: Source>(
         claim_file.is_some(),
         form,
         &mut out,
-        &mut told,
+        &mut reported,
     ) {
         Ok(plotted) => Ok(ExitCode::from(status_of(plotted))),
         Err(fault) => {

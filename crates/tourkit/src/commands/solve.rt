@@ -1,10 +1,11 @@
 //! The subcommand `solve`.
 use crate::between_object::BetweenObject;
 use crate::commands::check::FOUND;
-use crate::commands::solve_options::{is_parameter_file, is_problem_file, params_of};
+use crate::commands::solve_options::{is_parameter_file, is_problem_file, settings_of};
 use crate::commands::solve_outcome::{Stop, outcome_of};
 use crate::file_id::FileId;
 use crate::input::open;
+use crate::log::Log;
 use crate::objects::{RouteSearchObject, TourSearchObject};
 use crate::output::save;
 use crate::printed::{Unprinted, print_json, print_line};
@@ -13,10 +14,10 @@ use crate::report;
 use crate::search::Search;
 use crate::vehicles::MissingVehicles;
 use crate::watching::SearchWatch;
-use crate::written::{Kept, check_written, note_slips};
+use crate::written::{InputFiles, check_written, note_slips};
 use std::io::IsTerminal;
 use std::process::ExitCode;
-use tk_command_line::{STANDARD, SearchOptions, Shown};
+use tk_command_line::{DisplayOptions, STANDARD, SearchOptions};
 use tk_engines::{Fault, SearchOutcome, write_found, write_search_lines};
 use tk_params::{ParamFault, ParamKind, Params, read_params};
 use tk_words::{FromRead, Source, TextKind};
@@ -30,7 +31,7 @@ pub fn solve_command<'a>(
     rt: &'a HostRuntime,
     file: &'a str,
     options: Option<SearchOptions<'a>>,
-    shown: Shown,
+    shown: DisplayOptions<'a>,
 ) -> Result<ExitCode, Refusal<'a>> {
     match options {
         Some(options) => solve_problem(rt, file, &options, shown),
@@ -43,7 +44,7 @@ pub fn solve_command<'a>(
 fn solve_parameters<'a>(
     rt: &'a HostRuntime,
     file: &'a str,
-    shown: Shown,
+    shown: DisplayOptions<'a>,
 ) -> Result<ExitCode, Refusal<'a>> {
     let parameters = open(rt, file)?;
     let parameters_id = parameters.id(rt);
@@ -74,12 +75,12 @@ fn solve_problem<'a>(
     rt: &'a HostRuntime,
     problem: &'a str,
     options: &SearchOptions<'a>,
-    shown: Shown,
+    shown: DisplayOptions<'a>,
 ) -> Result<ExitCode, Refusal<'a>> {
-    let params = params_of(rt, options)?;
+    let settings = settings_of(rt, options)?;
     solve(
         rt,
-        &Search::by_options(problem, &params, options),
+        &Search::by_options(problem, options, settings),
         None,
         shown,
     )
@@ -90,21 +91,21 @@ fn solve<'a>(
     rt: &'a HostRuntime,
     search: &Search<'_, 'a>,
     parameters: Option<FileId>,
-    shown: Shown,
+    shown: DisplayOptions<'a>,
 ) -> Result<ExitCode, Refusal<'a>> {
     let (problem, initial) = search.open(rt)?;
-    let kept = Kept {
+    let inputs = InputFiles {
         parameters,
         problem: problem.id(rt),
         initial: initial.as_ref().and_then(|initial| initial.id(rt)),
     };
-    check_written(rt, search, kept)?;
+    check_written(rt, search, inputs)?;
     let mut problem = FromRead::new(problem);
     match initial {
         Some(initial) => begin(
             rt,
             search,
-            kept,
+            inputs,
             shown,
             &mut problem,
             &mut FromRead::new(initial),
@@ -112,7 +113,7 @@ fn solve<'a>(
         None => begin(
             rt,
             search,
-            kept,
+            inputs,
             shown,
             &mut problem,
             &mut FromRead::new(b"".as_slice()),
@@ -124,15 +125,16 @@ fn solve<'a>(
 fn begin<'a, P: Source, I: Source>(
     rt: &'a HostRuntime,
     search: &Search<'_, 'a>,
-    kept: Kept,
-    shown: Shown,
+    inputs: InputFiles,
+    shown: DisplayOptions<'a>,
     problem: &mut P,
     initial: &mut I,
 ) -> Result<ExitCode, Refusal<'a>> {
-    let mut watch = SearchWatch::new(rt, search, kept, shown.progress)?;
+    let log = Log::open(rt, search, inputs, shown.log)?;
+    let mut watch = SearchWatch::new(rt, search, inputs, shown.progress, log)?;
     match outcome_of(rt.alloc(), search, problem, initial, &mut watch) {
         Ok(outcome) => finish(rt, search, &outcome, shown.json, &mut watch),
-        Err(Stop::Fault(fault)) => Err(stopped(rt, search, kept, &fault)),
+        Err(Stop::Fault(fault)) => Err(stopped(rt, search, inputs, &fault)),
         Err(Stop::NotForType(option)) => {
             Err(Refusal::UnfitKey(search.problem, option, KeyMisfit::Type))
         }
@@ -169,11 +171,7 @@ fn print(
     if json {
         return print_object(rt, search, outcome);
     }
-    write_search_lines(
-        &mut ToWrite::new(rt.stdout()),
-        search.params.ignored(),
-        outcome,
-    )?;
+    write_search_lines(&mut ToWrite::new(rt.stdout()), search.ignored(), outcome)?;
     match MissingVehicles::of(search, outcome) {
         Some(missing) => print_line(rt, &missing),
         None => Ok(()),
@@ -186,7 +184,7 @@ fn print_object(
     search: &Search<'_, '_>,
     outcome: &SearchOutcome,
 ) -> Result<(), Unprinted> {
-    let ignored = search.params.ignored();
+    let ignored = search.ignored();
     match outcome {
         SearchOutcome::Tour(found) => {
             print_json(rt, &TourSearchObject::of(rt.alloc(), ignored, found)?)
@@ -214,7 +212,7 @@ fn unwritten<'a>(search: &Search<'_, 'a>, text: &[u8], watch: &mut SearchWatch<'
 fn stopped<'a>(
     rt: &HostRuntime,
     search: &Search<'_, 'a>,
-    kept: Kept,
+    inputs: InputFiles,
     fault: &Fault,
 ) -> Refusal<'a> {
     match fault {
@@ -227,7 +225,7 @@ fn stopped<'a>(
         Fault::Problem(text)
             if search.is_by_options()
                 && !matches!(text.kind, TextKind::Read | TextKind::NoMemory)
-                && kept.problem.is_some()
+                && inputs.problem.is_some()
                 && is_parameter_file(rt, search.problem) => {
             Refusal::Unfit(search.problem, Misfit::ParameterFile)
         }

@@ -6,74 +6,41 @@ use std::fs::File;
 use std::io::Read;
 use tk_command_line::SearchOptions;
 use tk_kinds::{Kind, begins_with_key, kind_of};
-use tk_params::{Key, ParamKind, Params, ParamsBuilder};
+use tk_params::{Key, ParamKind, SearchBuilder, SearchSettings};
 
 /// The number of bytes that are read to decide whether a file is a parameter file or a problem file.
 const HEAD: usize = 4096;
 
-/// The options, and the argument PROBLEM, with the keys of parameter files that they set, in the order in which they
-/// are checked.
-static SETTINGS: [(&str, Key); 9] = [
-    ("PROBLEM", Key::ProblemFile),
-    ("--initial-tour", Key::InitialTourFile),
-    ("--runs", Key::Runs),
-    ("--trials", Key::MaxTrials),
-    ("--seed", Key::Seed),
-    ("--candidates", Key::MaxCandidates),
-    ("--construction", Key::Construction),
-    ("--final-sweep", Key::FinalSweep),
-    ("--or-segment", Key::OrSegment),
-];
-
-/// The parameters that options request. Files are opened by the names in the options, in which a `$` has no special
-/// meaning. So the parameters do not contain these names, but only whether there is an initial tour.
+/// The settings that options request.
 ///
 /// # Errors
 /// An option has an invalid value, or memory runs out.
-pub fn params_of(
+pub fn settings_of(
     rt: &HostRuntime,
     options: &SearchOptions<'_>,
-) -> Result<Params, Refusal<'static>> {
-    let mut builder = ParamsBuilder::new(rt.alloc());
-    set_keys(&mut builder, options)?;
-    match builder.build() {
-        Some(params) => Ok(params),
-        None => Err(Refusal::NoMemory),
-    }
-}
-
-/// Sets the keys of all options.
-fn set_keys(
-    builder: &mut ParamsBuilder,
-    options: &SearchOptions<'_>,
-) -> Result<(), Refusal<'static>> {
-    for (option, key) in SETTINGS.iter() {
-        if let Some(value) = value_of(options, *key) {
-            set_key(builder, option, *key, value)?;
+) -> Result<SearchSettings, Refusal<'static>> {
+    let sweep = options.final_sweep.then_some("YES");
+    let given = [
+        ("--runs", Key::Runs, options.runs),
+        ("--trials", Key::MaxTrials, options.trials),
+        ("--seed", Key::Seed, options.seed),
+        ("--candidates", Key::MaxCandidates, options.candidates),
+        ("--construction", Key::Construction, options.construction),
+        ("--final-sweep", Key::FinalSweep, sweep),
+        ("--or-segment", Key::OrSegment, options.or_segment),
+    ];
+    let mut builder = SearchBuilder::new(rt.alloc());
+    for (option, key, value) in &given {
+        if let Some(value) = value {
+            set_key(&mut builder, option, *key, value)?;
         }
     }
-    Ok(())
-}
-
-/// The value that options give a key, if any.
-fn value_of<'a>(options: &SearchOptions<'a>, key: Key) -> Option<&'a str> {
-    match key {
-        Key::ProblemFile => Some("PROBLEM"),
-        Key::InitialTourFile => options.initial_tour.and(Some("TOUR")),
-        Key::Runs => options.runs,
-        Key::MaxTrials => options.trials,
-        Key::Seed => options.seed,
-        Key::MaxCandidates => options.candidates,
-        Key::Construction => options.construction,
-        Key::FinalSweep => options.final_sweep.then_some("YES"),
-        Key::OrSegment => options.or_segment,
-        _ => None,
-    }
+    Ok(builder.build())
 }
 
 /// Sets the key of an option, or rejects its value.
 fn set_key(
-    builder: &mut ParamsBuilder,
+    builder: &mut SearchBuilder,
     option: &'static str,
     key: Key,
     value: &str,

@@ -1,12 +1,13 @@
 //! The search of `solve`, by the type of its problem.
-use crate::search::Search;
+use crate::search::{Requester, Search};
 use crate::watching::SearchWatch;
 use std::alloc::Global;
 use tk_command_line::SearchOptions;
 use tk_engines::{
     BetweenOptions, Fault, SearchOutcome, search_between, search_outcome, search_problem,
 };
-use tk_params::Params;
+use tk_lists::read_tour;
+use tk_params::SearchSettings;
 use tk_problem::Problem;
 use tk_problem_text::read_problem;
 use tk_words::Source;
@@ -42,17 +43,19 @@ pub fn outcome_of<P: Source, I: Source>(
     initial: &mut I,
     watch: &mut SearchWatch<'_>,
 ) -> Result<SearchOutcome, Stop> {
-    let Some(options) = search.options else {
-        return Ok(search_outcome(alloc, search.params, problem, initial, watch)?);
-    };
-    let problem = read_problem(alloc, problem).map_err(Fault::Problem)?;
-    outcome_by_options(alloc, search.params, options, &problem, initial, watch)
+    match search.requester {
+        Requester::Keys(params) => Ok(search_outcome(alloc, params, problem, initial, watch)?),
+        Requester::Options(options, settings) => {
+            let problem = read_problem(alloc, problem).map_err(Fault::Problem)?;
+            outcome_by_options(alloc, &settings, options, &problem, initial, watch)
+        }
+    }
 }
 
 /// The outcome of a search that options request, for a problem that has been read.
 fn outcome_by_options<I: Source>(
     alloc: Global,
-    params: &Params,
+    settings: &SearchSettings,
     options: &SearchOptions<'_>,
     problem: &Problem,
     initial: &mut I,
@@ -63,10 +66,14 @@ fn outcome_by_options<I: Source>(
         return Err(Stop::NotForType(option));
     }
     if routing && !options.within_routes {
-        let terms = between_options(params, options);
+        let terms = between_options(settings, options);
         return Ok(search_between(alloc, &terms, problem, initial, watch)?);
     }
-    Ok(search_problem(alloc, params, problem, initial, watch)?)
+    let initial = match options.initial_tour {
+        Some(_) => Some(read_tour(alloc, initial).map_err(Fault::Tour)?),
+        None => None,
+    };
+    Ok(search_problem(alloc, settings, problem, &initial, watch)?)
 }
 
 /// The first option that does not apply to a problem with routing, or to one without.
@@ -90,26 +97,24 @@ fn unfit(options: &SearchOptions<'_>, routing: bool) -> Option<&'static str> {
     None
 }
 
-/// The options of a search between routes. The parameters have the values that were given; the defaults are those of
-/// this search.
-fn between_options(params: &Params, options: &SearchOptions<'_>) -> BetweenOptions {
-    let runs = if options.runs.is_some() {
-        params.runs()
-    } else {
-        RUNS
+/// The options of a search between routes. The settings have the values that were given; the defaults are those of this
+/// search.
+fn between_options(settings: &SearchSettings, options: &SearchOptions<'_>) -> BetweenOptions {
+    let runs = match options.runs {
+        Some(_) => settings.runs,
+        None => RUNS,
     };
-    let candidates = if options.candidates.is_some() {
-        params.max_candidates()
-    } else {
-        CANDIDATES
+    let candidates = match options.candidates {
+        Some(_) => settings.max_candidates,
+        None => CANDIDATES,
     };
     BetweenOptions {
         from_solution: options.initial_solution.is_some(),
         runs,
-        trials: params.max_trials(),
-        seed: params.seed(),
+        trials: settings.max_trials,
+        seed: settings.seed,
         candidates,
-        or_segment: params.or_segment(),
-        final_sweep: params.final_sweep(),
+        or_segment: settings.or_segment,
+        final_sweep: settings.final_sweep,
     }
 }

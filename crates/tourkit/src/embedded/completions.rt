@@ -31,7 +31,7 @@ _tourkit_options() {
         near) _tourkit_words "-k --json -h --help" ;;
         plot) _tourkit_words "--html -h --help" ;;
         solve) _tourkit_words "-o --output --trials --candidates --runs --seed --or-segment --construction
-            --final-sweep --initial-tour --initial-solution --vehicles --within-routes --progress --json -h --help" ;;
+            --final-sweep --initial-tour --initial-solution --vehicles --within-routes --progress --log --json -h --help" ;;
     esac
 }
 
@@ -73,7 +73,7 @@ _tourkit() {
         *:-k:* | *:--trials:* | *:--candidates:* | *:--runs:* | *:--seed:* | *:--vehicles:*) ;;
         *:--or-segment:*) _tourkit_words "1 2 3" ;;
         *:--construction:*) _tourkit_words "nearest savings" ;;
-        *:-o:* | *:--output:* | *:--initial-tour:* | *:--initial-solution:* | *:*[\<\>]:*) _tourkit_files ;;
+        *:-o:* | *:--output:* | *:--log:* | *:--initial-tour:* | *:--initial-solution:* | *:*[\<\>]:*) _tourkit_files ;;
         *:*:-*) _tourkit_options ;;
         *) _tourkit_arguments ;;
     esac
@@ -169,6 +169,7 @@ _tourkit() {
                 '--vehicles=[exit with status 1 if the best solution has more routes than N (CVRP only)]:number: ' \
                 '--within-routes[move no customers between routes, as with PARAMETERS (CVRP only)]' \
                 "--progress[write each run's line to standard error when the run ends]" \
+                '--log=[append a JSON object to FILE for each improvement of a run]:file:_files' \
                 '--json[print one JSON object instead of text]' \
                 '1:problem or parameters:_files'
             ;;
@@ -246,6 +247,8 @@ complete -c tourkit -n '__fish_seen_subcommand_from solve' -l within-routes \
     -d 'move no customers between routes, as with PARAMETERS (CVRP only)'
 complete -c tourkit -n '__fish_seen_subcommand_from solve' -l progress \
     -d 'write each run\'s line to standard error when the run ends'
+complete -c tourkit -n '__fish_seen_subcommand_from solve' -l log -r -F \
+    -d 'append a JSON object to FILE for each improvement of a run'
 complete -c tourkit -n '__fish_seen_subcommand_from solve' -l json -d 'print one JSON object instead of text'
 
 complete -c tourkit -n '__fish_seen_subcommand_from help' -f -a 'check checksol explain info matrix near plot solve help'

@@ -6,16 +6,16 @@ use Rattle.tk_problem.specs.declared.limits.TheConstants.{CITY_LIMIT}
 use Rattle.tk_near.specs.Near.{near_of}
 use Rattle.tk_descent.proofs.OfferLists.OnCycle.{more_on, more_made}
 use Rattle.tk_tour.specs.Tour.{tour_length, IsTour}
-use Rattle.tk_descent.specs.Machine.{RunUnder}
-use Rattle.tk_descent.specs.Machine.RunUnder.{start}
+use Rattle.tk_descent.specs.Machine.{ExecutionUnder}
+use Rattle.tk_descent.specs.Machine.ExecutionUnder.{start}
 use Rattle.tk_descent.proofs.MovesOnTours.Paths.{IsTable}
 use Rattle.tk_descent.proofs.MovesOnTours.Rounds.{round_of}
-use Rattle.tk_descent.proofs.WakeRuns.DescentSteps.{run_asleep, run_move, less_move, worth_move, queue_left}
-use Rattle.tk_descent.proofs.WakeRuns.DescentSteps.{fits_length, more_swaps, tests_rise, count_look, few_tests}
-use Rattle.tk_descent.proofs.WakeRuns.DescentSteps.{fresh_count, saved_is, may_made}
+use Rattle.tk_descent.proofs.WakeExecutions.DescentSteps.{run_asleep, run_move, less_move, worth_move, queue_left}
+use Rattle.tk_descent.proofs.WakeExecutions.DescentSteps.{fits_length, more_swaps, tests_rise, count_look, few_tests}
+use Rattle.tk_descent.proofs.WakeExecutions.DescentSteps.{fresh_count, saved_is, may_made}
 use Rattle.tk_descent.proofs.OfferLists.Count.{fewer}
 use Rattle.tk_descent.specs.WakeMachine.{WakesUnder}
-use Rattle.tk_descent.proofs.WakeRuns.Machines.{run_wakes}
+use Rattle.tk_descent.proofs.WakeExecutions.Machines.{run_wakes}
 use Rattle.tk_descent.proofs.descent.descend_under.Given.{Over}
 use Rattle.tk_descent.proofs.descent.descend_under.Goals as goal
 use mir.Val.{SFits}
@@ -212,12 +212,13 @@ returns-clause-descent g c =
       fewer c.args.or_segment c.args.near.now.width c.loop-x.looks (length W + 6 * c.loop-x.moves)
           (omega (arith, i.looked)),
     ) in
-    let run : RunUnder may d near c.args.or_segment T W D [] c.loop-x.looks c.loop-x.moves i.run.0 =
-    subst (λ z. RunUnder may d near c.args.or_segment T W D z c.loop-x.looks c.loop-x.moves i.run.0) asleep i.run.1 in
+    let run : ExecutionUnder may d near c.args.or_segment T W D [] c.loop-x.looks c.loop-x.moves i.run.0 =
+    subst (λ z. ExecutionUnder may d near c.args.or_segment T W D z c.loop-x.looks c.loop-x.moves i.run.0) asleep
+    i.run.1 in
     record {
       run = (i.run.0, run, i.run.2);
       fresh = λ fresh.
-          subst (λ z. RunUnder may d near c.args.or_segment T W D [] c.loop-x.looks c.loop-x.moves z)
+          subst (λ z. ExecutionUnder may d near c.args.or_segment T W D [] c.loop-x.looks c.loop-x.moves z)
           (fresh_count _ _ i.run.0 _ i.run.2 (omega (arith, c.tests-tests.ensures, c.tests.ensures)) fresh
           (few_tests c.args.or_segment c.args.near.now.width (length W) c.loop-x.moves _ (tour_length d T)
           c.requires.most.1 (omega (arith, c.width-candidates.ensures.value, c.width-candidates.ensures.limit))

@@ -2,7 +2,7 @@ use Rattle.std.proofs.Common.{◌≡◌, ℕ, ◌+◌, ◌*◌, ◌/◌, ◌≤�
 use Rattle.tk_near.specs.Near.{near_of}
 use Rattle.tk_tour.specs.Counters.{saturated}
 use Rattle.tk_tour.specs.Tour.{tour_length}
-use Rattle.tk_descent.specs.Machine.{RunUnder}
+use Rattle.tk_descent.specs.Machine.{ExecutionUnder}
 use Rattle.tk_descent.proofs.descent.descend_under.Given as goal
 
 abbrev pub invariant-loop-x : goal.invariant-loop-x
@@ -11,7 +11,8 @@ invariant-loop-x g l =
     let T = g.S.TourStore.cities l.fn.tour in
     let C = g.S.TourStore.cities l.tour in
     record {
-      run : (tests : ℕ) × RunUnder (g.R.Rule.allowed l.rule) dist (near_of l.near) l.or_segment T l.fn.waking.queue C
+      run : (tests : ℕ) × ExecutionUnder (g.R.Rule.allowed l.rule) dist (near_of l.near) l.or_segment T
+          l.fn.waking.queue C
           l.waking.queue l.looks l.moves tests
           × (g.G.Gains.test_count l.gains ≡ saturated (g.G.Gains.test_count l.fn.gains + tests));
       tour : g.R.Rule.Fits l.rule C;

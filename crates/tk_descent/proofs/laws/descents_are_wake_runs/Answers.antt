@@ -1,7 +1,7 @@
 use Rattle.tk_near.specs.Near.{near_of}
 use Rattle.tk_descent.proofs.MovesOnTours.Rounds.{round_of}
-use Rattle.tk_descent.proofs.WakeRuns.Kept.{run_looks}
-use Rattle.tk_descent.proofs.WakeRuns.Machines.{run_wakes, rules_nothing}
+use Rattle.tk_descent.proofs.WakeExecutions.KeptTours.{run_looks}
+use Rattle.tk_descent.proofs.WakeExecutions.Machines.{run_wakes, rules_nothing}
 use Rattle.tk_descent.specs.Offers.{everything}
 use Rattle.tk_descent.specs.WakeMachine.{each_cycle}
 use Rattle.tk_descent.proofs.laws.descents_are_wake_runs.Goals as goal

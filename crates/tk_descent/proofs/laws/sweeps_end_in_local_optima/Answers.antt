@@ -1,5 +1,5 @@
 use Rattle.tk_near.specs.Near.{near_of}
-use Rattle.tk_descent.proofs.WakeRuns.Kept.{sweeps_optimum}
+use Rattle.tk_descent.proofs.WakeExecutions.KeptTours.{sweeps_optimum}
 use Rattle.tk_descent.proofs.laws.sweeps_end_in_local_optima.Goals as goal
 
 pub returns : goal.returns

@@ -5,7 +5,7 @@ use Rattle.tk_descent.specs.Offers.{first_allowed, offers}
 use Rattle.tk_descent.specs.WakeMachine.{HasNoOfferUnder}
 use Rattle.tk_descent.proofs.MovesOnTours.Paths.{IsTable}
 use Rattle.tk_descent.proofs.MovesOnTours.Rounds.{round_of}
-use Rattle.tk_descent.proofs.WakeRuns.Machines.{none_improves, some_improves}
+use Rattle.tk_descent.proofs.WakeExecutions.Machines.{none_improves, some_improves}
 use Rattle.tk_descent.proofs.optimum.is_local_optimum_under.Given.{Over}
 use Rattle.tk_descent.proofs.optimum.is_local_optimum_under.Goals as goal
 

@@ -8,9 +8,9 @@ use Rattle.tk_descent.specs.Sweeps.{MovingUnder, PassUnder}
 use Rattle.tk_descent.specs.Sweeps.MovingUnder.{start, pass}
 use Rattle.tk_descent.proofs.MovesOnTours.Paths.{IsTable}
 use Rattle.tk_descent.proofs.MovesOnTours.Rounds.{round_of}
-use Rattle.tk_descent.proofs.WakeRuns.Woken.{one_to-length}
-use Rattle.tk_descent.proofs.WakeRuns.Passes.{all_awake, pass_of, pass_optimum, after_bits, swept}
-use Rattle.tk_descent.proofs.WakeRuns.Passes.{count_pass, fresh_sweep, IsReported-more, IsReported-by}
+use Rattle.tk_descent.proofs.WakeExecutions.WokenQueue.{one_to-length}
+use Rattle.tk_descent.proofs.WakeExecutions.Passes.{all_awake, pass_of, pass_optimum, after_bits, swept}
+use Rattle.tk_descent.proofs.WakeExecutions.Passes.{count_pass, fresh_sweep, IsReported-more, IsReported-by}
 use Rattle.tk_descent.proofs.sweep.descend_swept_under.Given.{Over}
 use Rattle.tk_descent.proofs.sweep.descend_swept_under.Goals as goal
 

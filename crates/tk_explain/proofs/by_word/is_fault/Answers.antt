@@ -4,7 +4,7 @@ use Rattle.std.proofs.lemmas.Iterator.{YieldsList-from_slice}
 use Rattle.std.proofs.lemmas.Iterator.Search.{any_from_yields_List}
 use Rattle.tk_explain.specs.Faults.{named}
 use Rattle.tk_explain.specs.FaultWords.{is_named}
-use Rattle.tk_explain.proofs.Anys.{list_any-map}
+use Rattle.tk_explain.proofs.AnyItem.{list_any-map}
 use Rattle.tk_explain.proofs.by_word.is_fault.Goals as goal
 
 pub returns : goal.returns

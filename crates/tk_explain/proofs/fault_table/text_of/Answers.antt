@@ -1,6 +1,6 @@
 use Rattle.std.proofs.Common.{◌≡◌, ◌<◌, Some, arith, rules, slice_get}
 use Rattle.std.proofs.lemmas.Option.{slice_get_within}
-use Rattle.tk_explain.proofs.Lookups.{row_named}
+use Rattle.tk_explain.proofs.TableLookups.{row_named}
 use Rattle.tk_explain.proofs.fault_table.text_of.Goals as goal
 use Rattle.tk_explain.specs.Faults.{fault_named, faults, named}
 

@@ -1,8 +1,8 @@
 use Rattle.std.proofs.Common.{arith, ◌≡◌, ℕ, ◌-◌, ◌<◌, ◌≤◌, ◌⊎◌, ⊎_elim, inl, inr, take, length, List, refl, ◌∙◌}
 use Rattle.std.proofs.Common.{get_or}
 use Rattle.tk_near.specs.Keeping.{rank}
-use Rattle.tk_near.proofs.Inserting.{insert_by-full, before_false, before_true}
-use Rattle.tk_near.proofs.Placing.{keep_start, keep_step, keep_end, still_open}
+use Rattle.tk_near.proofs.SortedInsertion.{insert_by-full, before_false, before_true}
+use Rattle.tk_near.proofs.CandidateInserted.{keep_start, keep_step, keep_end, still_open}
 use Rattle.std.proofs.lemmas.Bool.{cases_lt}
 use Rattle.std.proofs.lemmas.List.{length-set, length-take-le}
 use Rattle.tk_near.specs.declared.candidates.Candidate.{Candidate}

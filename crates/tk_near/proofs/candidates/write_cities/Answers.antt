@@ -1,6 +1,6 @@
 use Rattle.std.proofs.Common.{arith, ◌+◌, ◌*◌, ◌-◌, ◌<◌, length, ap, ◌∙◌, slice_set, slice_index_or}
 use Rattle.tk_near.specs.declared.candidates.Candidate.{Candidate}
-use Rattle.tk_near.proofs.Tables.{written_more, product_step}
+use Rattle.tk_near.proofs.FlatLists.{written_more, product_step}
 use Rattle.tk_near.proofs.candidates.write_cities.Goals as goal
 
 pub loop-i-preserved : goal.loop-i-preserved

@@ -1,6 +1,6 @@
 use Rattle.std.proofs.Common.{arith, ◌≡◌, ◌+◌, ◌<◌, ◌∙◌, length, refl}
 use Rattle.tk_distance.specs.Cities.{IsCity}
-use Rattle.tk_near.proofs.Tables.{AreFilledAmong-write, AreFilledAmong-none, AreFilledAmong-same}
+use Rattle.tk_near.proofs.FlatLists.{AreFilledAmong-write, AreFilledAmong-none, AreFilledAmong-same}
 use Rattle.tk_near.proofs.near.fill_by_scan.Goals as goal
 
 pub loop-c-init : goal.loop-c-init

@@ -1,5 +1,5 @@
 use Rattle.std.proofs.Common.{arith}
-use Rattle.tk_near.proofs.Tables.{AreFilledAmong-front}
+use Rattle.tk_near.proofs.FlatLists.{AreFilledAmong-front}
 use Rattle.tk_near.proofs.near.near_among.Goals as goal
 
 pub from_filled_among-requires-clause-filled : goal.from_filled_among-requires-clause-filled

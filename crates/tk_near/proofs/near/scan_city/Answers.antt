@@ -1,16 +1,17 @@
 use Rattle.std.proofs.Common.{arith, ◌≡◌, ◌≢◌, ℕ, ◌+◌, ◌-◌, ◌≤◌, ◌<◌, cond, length, subst, sym}
 use Rattle.std.specs.Prelude.{nat_lt, replicate}
-use Rattle.tk_near.specs.Keeping.{open_place}
-use Rattle.tk_near.proofs.Keeping.{KeepsFirst-none, KeepsFirst-more, KeepsFirst-same, KeepsFirst-count}
-use Rattle.tk_near.proofs.Keeping.{IsNear-from_kept, kept_climbing, kept_length, same_twice, count_others, count_self}
-use Rattle.tk_near.proofs.Keeping.{count_most}
+use Rattle.tk_near.specs.Keeping.{empty_slot}
+use Rattle.tk_near.proofs.KeptCandidates.{KeepsFirst-none, KeepsFirst-more, KeepsFirst-same, KeepsFirst-count}
+use Rattle.tk_near.proofs.KeptCandidates.{IsNear-from_kept, kept_climbing, kept_length, same_twice, count_others}
+use Rattle.tk_near.proofs.KeptCandidates.{count_self}
+use Rattle.tk_near.proofs.KeptCandidates.{count_most}
 use Rattle.tk_near.proofs.near.scan_city.Goals as goal
 use Rattle.tk_near.proofs.near.scan_city.Goals.{then-b-c, else-b-c}
 
 pub loop-b-init : goal.loop-b-init
 loop-b-init g c =
     let k : ℕ = length c.args.kept.now in
-    let clear : c.fill.new.self ≡ replicate k open_place = c.fill.ensures.after (λ y e. e) in
+    let clear : c.fill.new.self ≡ replicate k empty_slot = c.fill.ensures.after (λ y e. e) in
     let none = KeepsFirst-none (g.M.Metric.distance c.args.m.now) c.args.c k (λ a. (1 ≤ a) × (a < 1) × (a ≢ c.args.c))
     (λ b s. let low : 1 ≤ b = s.0 in let high : b < 1 = s.1 in omega arith) in
     rw clear (KeepsFirst-count _ c.args.c k _ _ _ _ (same_twice (nat_lt c.args.c 1) 0) none)

@@ -1,5 +1,5 @@
 use Rattle.tk_problem.specs.declared.points.Places.TheVariants.{Whole}
-use Rattle.tk_near.proofs.Euclids.{euclid_table}
+use Rattle.tk_near.proofs.EuclidTables.{euclid_table}
 use Rattle.tk_near.proofs.table.near_lists.Goals as goal
 
 pub returns-in-Some : goal.returns-in-Some

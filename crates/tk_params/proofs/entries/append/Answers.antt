@@ -1,5 +1,5 @@
 use Rattle.std.proofs.Common.{◌∙◌, ap, map}
-use Rattle.tk_params.proofs.Looks.{stored_last}
+use Rattle.tk_params.proofs.SettingLookups.{stored_last}
 use Rattle.tk_params.specs.Reader.Stored.{entry_is}
 use Rattle.tk_params.proofs.entries.append.Goals as goal
 

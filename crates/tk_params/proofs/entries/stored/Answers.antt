@@ -1,4 +1,4 @@
-use Rattle.tk_params.proofs.Looks.{option_values, equal_looks}
+use Rattle.tk_params.proofs.SettingLookups.{option_values, equal_looks}
 use Rattle.tk_params.proofs.entries.stored.Goals as goal
 
 pub returns : goal.returns

@@ -1,6 +1,6 @@
 use Rattle.std.proofs.Common.{◌∙◌, ap, option_map}
 use Rattle.tk_params.specs.Reader.Stored.{value_is}
-use Rattle.tk_params.proofs.Looks.{equal_looks, other_look}
+use Rattle.tk_params.proofs.SettingLookups.{equal_looks, other_look}
 use Rattle.tk_params.proofs.entries.take.Goals as goal
 
 pub returns-clause-setting : goal.returns-clause-setting

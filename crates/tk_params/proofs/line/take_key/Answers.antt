@@ -1,6 +1,6 @@
 use Rattle.std.proofs.Common.{◌∙◌, sym}
 use Rattle.tk_params.proofs.Limits.{is_setting}
-use Rattle.tk_params.proofs.Looks.{taken_key}
+use Rattle.tk_params.proofs.SettingLookups.{taken_key}
 use Rattle.tk_params.specs.Reader.Stored.{value_is}
 use Rattle.tk_params.proofs.line.take_key.Goals as goal
 

@@ -1,5 +1,5 @@
 use Rattle.std.proofs.Common.{◌∙◌, sym, arith}
-use Rattle.tk_params.proofs.Looks.{empty_means, hash_means, nothing_taken}
+use Rattle.tk_params.proofs.SettingLookups.{empty_means, hash_means, nothing_taken}
 use Rattle.tk_params.proofs.line.take_line.Goals as goal
 
 pub returns-then-is_empty-clause-ok : goal.returns-then-is_empty-clause-ok

@@ -1,5 +1,5 @@
 use Rattle.std.proofs.Common.{◌∙◌, sym, arith}
-use Rattle.tk_params.proofs.Looks.{comment_means, nothing_taken}
+use Rattle.tk_params.proofs.SettingLookups.{comment_means, nothing_taken}
 use Rattle.tk_params.proofs.line.take_words.Goals as goal
 
 pub returns-then-spelled-clause-ok : goal.returns-then-spelled-clause-ok

@@ -1,5 +1,5 @@
 use Rattle.std.proofs.Common.{◌∙◌, ap, sym, List, ℕ, eqb, length, true, false}
-use Rattle.tk_params.proofs.Feeds.{hold_first, hold_more}
+use Rattle.tk_params.proofs.ReaderBytes.{hold_first, hold_more}
 use Rattle.tk_params.proofs.reader.hold.Goals as goal
 
 pub returns-then-not-is_empty : goal.returns-then-not-is_empty

@@ -1,5 +1,5 @@
 use Rattle.std.proofs.Common.{◌∙◌, ap, sym, Some, refl}
-use Rattle.tk_params.proofs.Looks.{file_none, file_some}
+use Rattle.tk_params.proofs.SettingLookups.{file_none, file_some}
 use Rattle.tk_params.specs.Values
 use Rattle.tk_params.proofs.value.file_of.Goals as goal
 

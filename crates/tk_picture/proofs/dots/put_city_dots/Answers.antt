@@ -1,7 +1,7 @@
 use Rattle.std.proofs.Common.{ap, sym, ◌∙◌}
 use Rattle.tk_picture.specs.PictureText.{has_dots}
 use Rattle.tk_picture.specs.Pictures.{drawing_of}
-use Rattle.tk_picture.proofs.PutNothing.{Puts-none}
+use Rattle.tk_picture.proofs.EmptyPen.{Puts-none}
 use Rattle.tk_picture.proofs.dots.put_city_dots.Goals as goal
 
 pub returns-then-has_dots : goal.returns-then-has_dots

@@ -5,7 +5,7 @@ use Rattle.std.specs.Str.Chunks.{utf8_chunks_rest}
 use Rattle.tk_writers.specs.Pens.{Puts}
 use Rattle.tk_writers.proofs.Pieces.Putting.{Puts-then}
 use Rattle.tk_picture.specs.Names.{shown_byte}
-use Rattle.tk_picture.proofs.Shown.{shown_chunk, shown_empty, shown_last}
+use Rattle.tk_picture.proofs.ShownNames.{shown_chunk, shown_empty, shown_last}
 use Rattle.tk_picture.proofs.name.put_name.Goals as goal
 
 pub loop-chunk-preserved-then-not-is_empty : goal.loop-chunk-preserved-then-not-is_empty

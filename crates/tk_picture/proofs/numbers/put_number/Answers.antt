@@ -1,7 +1,7 @@
 use Rattle.std.proofs.Common.{◌≡◌, Some, ap, sym, ◌∙◌}
 use Rattle.std.specs.Prelude.{option_copied, slice_get}
 use Rattle.tk_routes.specs.Cvrps.{instance_of}
-use Rattle.tk_picture.proofs.Paths.{marked}
+use Rattle.tk_picture.proofs.RoutePaths.{marked}
 use Rattle.tk_picture.specs.Views.{spot_in}
 use Rattle.tk_picture.proofs.numbers.put_number.Goals as goal
 

@@ -5,7 +5,7 @@ use Rattle.tk_writers.proofs.Pieces.Putting.{Puts-then}
 use Rattle.tk_routes.specs.Cvrps.{instance_of}
 use Rattle.tk_routes.specs.Instance.{node_of}
 use Rattle.tk_picture.specs.Views.{spot_in}
-use Rattle.tk_picture.proofs.Paths.{first_stop, last_stop}
+use Rattle.tk_picture.proofs.RoutePaths.{first_stop, last_stop}
 use Rattle.tk_picture.proofs.route_lines.put_at_depot.Goals as goal
 
 pub returns : goal.returns

@@ -3,7 +3,7 @@ use Rattle.tk_routes.specs.Cvrps.{instance_of}
 use Rattle.tk_picture.specs.Drawings.{route_path}
 use Rattle.tk_picture.specs.PictureText.{part_line}
 use Rattle.tk_picture.specs.Views.{spot_in}
-use Rattle.tk_picture.proofs.Paths.{filled_some}
+use Rattle.tk_picture.proofs.RoutePaths.{filled_some}
 use Rattle.tk_picture.proofs.route_lines.put_route.Goals as goal
 
 pub returns-then-not-is_empty : goal.returns-then-not-is_empty

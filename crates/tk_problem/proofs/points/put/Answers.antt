@@ -1,7 +1,7 @@
 use Rattle.std.proofs.Common.{All, ◌∙◌, ap, map, set, subst, sym, arith}
 use Rattle.std.proofs.lemmas.List.{map-set}
 use Rattle.std.proofs.lemmas.List.Elements.{All-set}
-use Rattle.tk_problem.proofs.Units.{places_in-near}
+use Rattle.tk_problem.proofs.UnitPoints.{places_in-near}
 use Rattle.tk_problem.specs.Places.{IsNearOrigin}
 use Rattle.tk_problem.specs.Units.{place_in}
 use Rattle.std.proofs.lemmas.Grind.{common_steps}

@@ -1,6 +1,6 @@
 use Rattle.std.proofs.Common.{◌≡◌, [], None, false, refl, arith}
 use Rattle.std.proofs.lemmas.Result.{IfOk-weaker}
-use Rattle.tk_words.proofs.Told.{where_unread}
+use Rattle.tk_words.proofs.ReportedFaults.{where_unread}
 use Rattle.tk_words.specs.Lex.{lines}
 use Rattle.tk_lines.specs.Pieces.{decided_by, judge, cut}
 use Rattle.tk_problem_text.specs.ProblemOf.{problem_is}

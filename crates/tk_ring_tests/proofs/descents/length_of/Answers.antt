@@ -1,5 +1,5 @@
 use Rattle.std.proofs.Common.{refl, sym}
-use Rattle.tk_ring_tests.proofs.Elements.{All-tour}
+use Rattle.tk_ring_tests.proofs.TourElements.{All-tour}
 use Rattle.tk_ring_tests.proofs.descents.length_of.Goals as goal
 
 pub length-requires-clause-cities : goal.length-requires-clause-cities

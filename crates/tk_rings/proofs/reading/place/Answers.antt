@@ -3,7 +3,7 @@ use Rattle.std.specs.List.{All}
 use Rattle.tk_lists.specs.Solution.{lists_of}
 use Rattle.tk_near.specs.Keeping.{insert_by}
 use Rattle.tk_rings.specs.RingRoutes.{first_of}
-use Rattle.tk_rings.proofs.Placing.{first_is, filled_at, goes_after, goes_before, goes_last}
+use Rattle.tk_rings.proofs.InsertedRoutes.{first_is, filled_at, goes_after, goes_before, goes_last}
 use Rattle.tk_rings.proofs.reading.place.Goals as goal
 
 sized : {now old : List (Vec ℕ Global)} → now ≡ old → length now ≡ length old

@@ -7,8 +7,8 @@ use Rattle.std.proofs.lemmas.List.{get_or-map, map-append, take_more}
 use Rattle.std.proofs.lemmas.List.Elements.{All-append, All-cons, All-nil}
 use mir.Val.{to_z, of_z}
 use Rattle.tk_distance.specs.Tables.{table_distance-same, table_distance-limit}
-use Rattle.tk_descent.proofs.WakeRuns.DescentSteps.{length_fits}
-use Rattle.tk_routes.proofs.Costs.{routes_cost-limit}
+use Rattle.tk_descent.proofs.WakeExecutions.DescentSteps.{length_fits}
+use Rattle.tk_routes.proofs.RouteCosts.{routes_cost-limit}
 use Rattle.tk_routes.specs.declared.cvrp.Cvrp.{Cvrp}
 use Rattle.tk_routes.specs.Cvrps.{instance_of}
 use Rattle.tk_routes.specs.Instance.{Instance}

@@ -4,14 +4,14 @@ use Rattle.std.specs.Prelude.{All}
 use Rattle.std.proofs.lemmas.Int.{to_z-of_z}
 use mir.Val.{to_z, of_z}
 use Rattle.tk_distance.specs.Cities.{IsCity}
-use Rattle.tk_solve.proofs.Cities.{cities_of_tour}
+use Rattle.tk_solve.proofs.TourEntries.{cities_of_tour}
 use Rattle.tk_tour.specs.Tour.{tour_length}
 use Rattle.tk_ring_search.specs.Given.{Given, given_of}
 use Rattle.tk_route_search.specs.Outcomes.{IsRunAdded}
 use Rattle.tk_route_search.specs.Tasks.{RouteTask, copies_in, given_for, task_of}
 use Rattle.tk_route_search.specs.Watching.{WereShown, nothing}
-use Rattle.tk_route_search.proofs.Inputs.{given_is}
-use Rattle.tk_route_search.proofs.Kept.{kept_none}
+use Rattle.tk_route_search.proofs.RunInputs.{given_is}
+use Rattle.tk_route_search.proofs.RunsSoFar.{kept_none}
 use Rattle.tk_route_search.proofs.Watched.{shown_both, shown_of_more}
 use Rattle.tk_route_search.proofs.routes.run_each.Goals as goal
 

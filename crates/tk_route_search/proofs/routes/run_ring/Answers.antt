@@ -7,14 +7,14 @@ use Rattle.tk_distance.specs.Cities.{IsCity}
 use Rattle.tk_near.specs.Near.{NearLists}
 use Rattle.tk_routes.specs.Instance.{customer_count}
 use Rattle.tk_rings.specs.RingRoutes.{ring_distance}
-use Rattle.tk_solve.proofs.Cities.{cities_of_tour}
+use Rattle.tk_solve.proofs.TourEntries.{cities_of_tour}
 use Rattle.tk_tour.specs.Tour.{tour_length}
 use Rattle.tk_route_search.specs.declared.outcome.Outcome.{Outcome}
 use Rattle.tk_route_search.specs.Events.{Event}
 use Rattle.tk_route_search.specs.Outcomes.{AreMade}
 use Rattle.tk_route_search.specs.Tasks.{RouteTask, IsRing, copies_in, given_for, task_of}
 use Rattle.tk_route_search.specs.Watching.{WereShown, nothing}
-use Rattle.tk_route_search.proofs.Kept.{kept_none}
+use Rattle.tk_route_search.proofs.RunsSoFar.{kept_none}
 use Rattle.tk_route_search.proofs.routes.run_ring.Goals as goal
 
 pub length-requires-clause-cities : goal.length-requires-clause-cities

@@ -12,7 +12,7 @@ use Rattle.tk_route_search.specs.Outcomes.{AreMade}
 use Rattle.tk_distance.specs.Tables.{table_distance-same, table_distance-swap}
 use Rattle.tk_route_search.specs.Tasks.{IsRing, RouteTask, copies_in, task_of}
 use Rattle.tk_route_search.specs.Watching.{WereShown}
-use Rattle.tk_route_search.proofs.Solved.{IsReadOff, solved_of, sound_of}
+use Rattle.tk_route_search.proofs.SearchResults.{IsReadOff, solved_of, sound_of}
 use Rattle.tk_route_search.proofs.routes.search_from.Goals as goal
 
 pub returns : goal.returns

@@ -11,7 +11,7 @@ use Rattle.tk_solve.specs.Runs.{words_of}
 use Rattle.tk_route_search.specs.Runs.{Trials, descended, tried}
 use Rattle.tk_route_search.specs.Tasks.{RouteTask, IsRing, task_of}
 use Rattle.tk_route_search.specs.Watching.{nothing, next, trial_event}
-use Rattle.tk_route_search.proofs.Standing.{best_stands, has_left, own_size}
+use Rattle.tk_route_search.proofs.RunFacts.{best_stands, has_left, own_size}
 use Rattle.tk_route_search.proofs.Watched.{run_of, shown_trial}
 use Rattle.tk_route_search.proofs.search.make_trials.Goals as goal
 
@@ -32,11 +32,11 @@ loop-trial-init g c =
     let begun = search_of c.args.search.now in
     let fits : FitsSigned w64 c.shortest.result = search (rules, c.shortest.type_inv) in
     let best_fits : FitsSigned w64 c.shortest-2.result = search (rules, c.shortest-2.type_inv) in
-    let told = shown_trial task c.args.j 0 begun true (pos (tour_length begun.given.distance begun.best))
+    let reported = shown_trial task c.args.j 0 begun true (pos (tour_length begun.given.distance begun.best))
     c.in_ok-tell.ensures refl (to_z-of_z w64 c.shortest.result fits ∙ c.shortest.ensures)
     (to_z-of_z w64 c.shortest-2.result best_fits ∙ c.shortest-2.ensures) c.best.ensures in (
-      trial_event task c.args.j 0 (pos (tour_length begun.given.distance begun.best)) begun told.0 ∷ [],
-      (rw c.seed_from_u64-generator.ensures (descended told.0 told.1.0), next nothing told.1.1),
+      trial_event task c.args.j 0 (pos (tour_length begun.given.distance begun.best)) begun reported.0 ∷ [],
+      (rw c.seed_from_u64-generator.ensures (descended reported.0 reported.1.0), next nothing reported.1.1),
     )
 
 pub tell-requires-in-loop-trial : goal.tell-requires-in-loop-trial
@@ -58,14 +58,15 @@ loop-trial-preserved g c =
     let fits : FitsSigned w64 report.descent.after = search (rules, c.trial.type_inv) in
     let best_fits : FitsSigned w64 c.shortest-in-loop-trial.result =
     search (rules, c.shortest-in-loop-trial.type_inv) in
-    let told = shown_trial task c.args.j (c.loop-trial.trial + 1) new (is_better report.outcome) report.descent.after
+    let reported = shown_trial task c.args.j (c.loop-trial.trial + 1) new (is_better report.outcome)
+    report.descent.after
     c.in_ok-tell-2.ensures c.is_better-is_new.ensures (to_z-of_z w64 report.descent.after fits)
     (to_z-of_z w64 c.shortest-in-loop-trial.result best_fits ∙ c.shortest-in-loop-trial.ensures)
     c.best-in-loop-trial.ensures in (
       _,
       (
-        tried told.0 c.loop-trial.invariant.1.0 c.in-Some.ensures told.1.0,
-        next c.loop-trial.invariant.1.1 told.1.1,
+        tried reported.0 c.loop-trial.invariant.1.0 c.in-Some.ensures reported.1.0,
+        next c.loop-trial.invariant.1.1 reported.1.1,
       ),
     )
 

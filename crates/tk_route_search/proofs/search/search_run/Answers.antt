@@ -3,7 +3,7 @@ use Rattle.tk_ring_search.specs.Given.{given_of}
 use Rattle.tk_ring_search.specs.SearchOf.{search_of}
 use Rattle.tk_ring_search.specs.Searching.{IsBegun}
 use Rattle.tk_route_search.specs.Tasks.{RouteTask, IsInput, task_of}
-use Rattle.tk_route_search.proofs.Standing.{best_stands}
+use Rattle.tk_route_search.proofs.RunFacts.{best_stands}
 use Rattle.tk_route_search.proofs.Watched.{run_of}
 use Rattle.tk_route_search.proofs.search.search_run.Goals as goal
 

@@ -8,7 +8,7 @@ use Rattle.tk_routes.specs.Routes.{AreRoutes, route_length, routes_cost}
 use Rattle.tk_routes.specs.declared.cvrp.Cvrp.{Cvrp}
 use Rattle.tk_routes.proofs.Improving.Exchanged.{AreServedOnce-routes}
 use Rattle.tk_routes.proofs.RouteSteps.{route_served, routes_cost-more, routes_cost-bound}
-use Rattle.tk_routes.proofs.Served.{AreServedOnce-short}
+use Rattle.tk_routes.proofs.ServedCustomers.{AreServedOnce-short}
 use Rattle.tk_route_search.proofs.start.cost_of.Goals as goal
 
 -- the cost of the first routes after one more is added, and that it fits in 64 bits

@@ -2,14 +2,14 @@ use Rattle.std.proofs.lemmas.Grind.{common_steps}
 use Rattle.std.proofs.Common.{arith}
 use Rattle.tk_segments.proofs.splitting.new_part.Goals as goal
 
-pub returns-then-run-clause-behind : goal.returns-then-run-clause-behind
-returns-then-run-clause-behind c = grind (arith, common_steps)
+pub returns-then-segment-clause-behind : goal.returns-then-segment-clause-behind
+returns-then-segment-clause-behind c = grind (arith, common_steps)
 
-pub returns-then-run-clause-ahead : goal.returns-then-run-clause-ahead
-returns-then-run-clause-ahead c = grind (arith, common_steps)
+pub returns-then-segment-clause-ahead : goal.returns-then-segment-clause-ahead
+returns-then-segment-clause-ahead c = grind (arith, common_steps)
 
-pub returns-else-run-clause-behind : goal.returns-else-run-clause-behind
-returns-else-run-clause-behind c = grind (arith, common_steps)
+pub returns-else-segment-clause-behind : goal.returns-else-segment-clause-behind
+returns-else-segment-clause-behind c = grind (arith, common_steps)
 
-pub returns-else-run-clause-ahead : goal.returns-else-run-clause-ahead
-returns-else-run-clause-ahead c = grind (arith, common_steps)
+pub returns-else-segment-clause-ahead : goal.returns-else-segment-clause-ahead
+returns-else-segment-clause-ahead c = grind (arith, common_steps)

@@ -28,7 +28,7 @@ loop-trial-preserved g c =
     let fits : FitsSigned w64 after = search (rules, c.trial-report.type_inv) in
     let best_fits : FitsSigned w64 c.shortest.result = search (rules, c.shortest.type_inv) in
     let given = given_run (trial (run_of c.loop-trial.invariant.1.0) c.trial-report.ensures.next) in
-    let told : ℤ → ℤ → List ℕ → Event = λ length best cities.
+    let reported : ℤ → ℤ → List ℕ → Event = λ length best cities.
     Tried (record {
       run = c.args.j + 1;
       runs = c.args.options.now.runs;
@@ -41,7 +41,7 @@ loop-trial-preserved g c =
     ∙ c.shortest.ensures
     ∙ ap (λ d. pos (tour_length d tried_search.best)) (given.distance ∙ c.in_ok-search.ensures.begun.table.0) in
     let Shown : ℤ → ℤ → List ℕ → Type 0 =
-    λ length best cities. g.W.Watch.shows c.loop-trial.watch (told length best cities) c.trial.new.self in
+    λ length best cities. g.W.Watch.shows c.loop-trial.watch (reported length best cities) c.trial.new.self in
     let lengths = subst (λ length. Shown length (to_z w64 (of_z w64 c.shortest.result)) c.best.result.now)
     (to_z-of_z w64 after fits) c.trial.ensures in
     let shown =
@@ -70,7 +70,7 @@ returns g c =
     let count : c.loop-trial.trial ≡ trials_of task =
     omega (arith, c.loop-trial-test.false, c.loop-trial.auto.trial-end, all) in
     let shown = c.loop-trial.invariant.0 in
-    let told : ℕ → ℕ → ℤ → Searching → Event = λ trials t length search.
+    let reported : ℕ → ℕ → ℤ → Searching → Event = λ trials t length search.
     Tried (record {
       run = c.args.j + 1;
       runs = c.args.options.now.runs;
@@ -79,7 +79,7 @@ returns g c =
       length = length;
       best = pos (tour_length task.distance search.best);
     }) search.best in
-    let P : ℕ → ℕ → Type 0 = λ trials t. Trials (told trials) (search_of c.in_ok-search.search) words t shown
+    let P : ℕ → ℕ → Type 0 = λ trials t. Trials (reported trials) (search_of c.in_ok-search.search) words t shown
     (search_of c.loop-trial.search) (stream_of (steps_u32 pcg32) c.loop-trial.generator) in
     let trials =
     subst (P (trials_of task)) count

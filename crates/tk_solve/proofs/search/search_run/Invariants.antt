@@ -11,7 +11,7 @@ use Rattle.tk_solve.proofs.search.search_run.Given as goal
 
 abbrev pub invariant-loop-trial : goal.invariant-loop-trial
 invariant-loop-trial g l =
-    let told : ℕ → ℤ → Searching → Event = λ t length search.
+    let reported : ℕ → ℤ → Searching → Event = λ t length search.
     Tried (record {
       run = l.fn.j + 1;
       runs = l.fn.options.runs;
@@ -21,7 +21,8 @@ invariant-loop-trial g l =
       best = pos (tour_length (g.M.Metric.distance l.fn.metric) search.best);
     }) search.best in
     (shown : List Event) × (
-    Trials told (search_of l.initial.search) (words_of (l.fn.options.seed + l.fn.j)) l.trial shown (search_of l.search)
+    Trials reported (search_of l.initial.search) (words_of (l.fn.options.seed + l.fn.j)) l.trial shown
+    (search_of l.search)
     (stream_of (steps_u32 pcg32) l.generator)
     × WereShown g.W.Watch.shows l.initial.watch l.watch shown
     )

@@ -1,4 +1,4 @@
-use Rattle.tk_solve.proofs.Both.{IfOk-both}
+use Rattle.tk_solve.proofs.OutcomeFacts.{IfOk-both}
 use Rattle.tk_solve.proofs.starts.savings_start.Goals as goal
 
 pub returns-in-Planes : goal.returns-in-Planes

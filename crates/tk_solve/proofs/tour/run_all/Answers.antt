@@ -3,7 +3,7 @@ use Rattle.tk_solve.specs.Runs.{AreSoFar}
 use Rattle.tk_solve.specs.Starts.{task_of}
 use Rattle.tk_solve.specs.declared.outcome.RunReport.{RunReport}
 use Rattle.tk_solve.specs.Watching.{WereShown, nothing}
-use Rattle.tk_solve.proofs.SoFar.{so_far_none}
+use Rattle.tk_solve.proofs.RunsSoFar.{so_far_none}
 use Rattle.tk_solve.proofs.Watched.{shown_both, shown_of_more}
 use Rattle.tk_solve.proofs.tour.run_all.Goals as goal
 

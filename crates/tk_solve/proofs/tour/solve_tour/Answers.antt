@@ -1,7 +1,7 @@
 use Rattle.std.proofs.Common.{◌≡◌, ◌≤◌, ◌-◌, ◌∙◌, length, min, arith, rules}
 use Rattle.tk_distance.specs.Tables.{table_size, table_distance-swap}
 use Rattle.tk_solve.specs.Starts.{AreCandidates, task_of}
-use Rattle.tk_solve.proofs.Sound.{IfOk-sound}
+use Rattle.tk_solve.proofs.ResultsOfRuns.{IfOk-sound}
 use Rattle.tk_solve.proofs.tour.solve_tour.Goals as goal
 
 pub returns-clause-sound : goal.returns-clause-sound

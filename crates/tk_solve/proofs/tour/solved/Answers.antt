@@ -2,7 +2,7 @@ use Rattle.std.proofs.Common.{sym, subst, arith}
 use Rattle.tk_distance.specs.Tables.{table_size, table_size-limit}
 use Rattle.tk_tour.specs.Tour.{IsTour}
 use Rattle.tk_routes.proofs.Improving.ReadOffs.{IsTour-cycle}
-use Rattle.tk_solve.proofs.Cities.{cities_of_tour}
+use Rattle.tk_solve.proofs.TourEntries.{cities_of_tour}
 use Rattle.tk_solve.proofs.tour.solved.Goals as goal
 
 pub length-length-requires-clause-cities : goal.length-length-requires-clause-cities

@@ -1,4 +1,4 @@
-use Rattle.tk_tour.proofs.Bridge.{after1, after2, after3, after4, can1, can2, can3, can4}
+use Rattle.tk_tour.proofs.DoubleBridgeFlips.{after1, after2, after3, after4, can1, can2, can3, can4}
 use Rattle.tk_tour.proofs.laws.double_bridge.Goals as goal
 
 pub flip-requires : goal.flip-requires

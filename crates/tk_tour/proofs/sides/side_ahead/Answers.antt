@@ -4,19 +4,20 @@ use Rattle.tk_tour.proofs.sides.side_ahead.Goals as goal
 
 pub place_of-start-requires : goal.place_of-start-requires
 place_of-start-requires g c =
-    (cities_after _ _ _ _ _ (g.met.S.Placed.is_tour c.args.tour.now).2 c.requires).0
+    (cities_after _ _ _ _ _ (g.met.S.Positions.is_tour c.args.tour.now).2 c.requires).0
 
 pub returns-then-inner-n-clause-side : goal.returns-then-inner-n-clause-side
 returns-then-inner-n-clause-side g c =
     let from = c.place_of-start in
     let to = c.place_of in
     inner_side _ c.city_count-n.result _ _ _ _ c.path_length-inner.result from.result to.result
-    (g.met.S.Placed.is_tour c.args.tour.now).2 c.city_count-n.ensures c.requires from.ensures.within from.ensures.city
+    (g.met.S.Positions.is_tour c.args.tour.now).2 c.city_count-n.ensures c.requires from.ensures.within
+    from.ensures.city
     to.ensures.within to.ensures.city c.path_length-inner.ensures.length (omega (arith, c.if-inner-n.true))
 
 pub place_of-requires-2 : goal.place_of-requires-2
 place_of-requires-2 g c =
-    (cities_after _ _ _ _ _ (g.met.S.Placed.is_tour c.args.tour.now).2 c.requires).1
+    (cities_after _ _ _ _ _ (g.met.S.Positions.is_tour c.args.tour.now).2 c.requires).1
 
 pub returns-clause-side : goal.returns-clause-side
 returns-clause-side g c =
@@ -24,7 +25,8 @@ returns-clause-side g c =
     let to = c.place_of in
     let other = c.place_of-2 in
     outer_side _ c.city_count-n.result _ _ _ _ c.path_length-inner.result from.result to.result
-    (g.met.S.Placed.is_tour c.args.tour.now).2 c.city_count-n.ensures c.requires from.ensures.within from.ensures.city
+    (g.met.S.Positions.is_tour c.args.tour.now).2 c.city_count-n.ensures c.requires from.ensures.within
+    from.ensures.city
     to.ensures.within to.ensures.city c.path_length-inner.ensures.length other.result other.ensures.within
     other.ensures.city (omega (arith, c.if-inner-n.false))
 

@@ -1,4 +1,4 @@
-use Rattle.tk_tour.proofs.Placing.{Placing}
+use Rattle.tk_tour.proofs.FirstPositions.{Placing}
 use Rattle.tk_tour.proofs.verdict.place_cities.Given as goal
 
 abbrev pub invariant-loop-k : goal.invariant-loop-k

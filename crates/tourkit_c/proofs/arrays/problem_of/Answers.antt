@@ -1,6 +1,6 @@
 use Rattle.std.proofs.Common.{◌≡◌, ap, refl, subst, sym, Bor, List, ℕ, Option, Some}
 use Rattle.tk_text.specs.Problem.{problem_texts}
-use Rattle.tk_text.specs.Texts.{IsFaultWhereTold}
+use Rattle.tk_text.specs.Texts.{IsFaultIfSpecified}
 use Rattle.tk_words.specs.Sources as sources
 use Rattle.tourkit_c.proofs.Refusals.{faulty}
 use Rattle.tourkit_c.proofs.TextsSaid.{has_cause}
@@ -13,7 +13,7 @@ returns-in-Err c =
     let text = c.args.text.now in
     let broken = sources.has_failed {R = Bor (List ℕ)} c.read_problem.new.source in
     let left = Some c.read_problem.new.source.inner.now in
-    let told = subst (λ (o : Option (List ℕ)). IsFaultWhereTold problem_texts broken o left fault)
+    let reported = subst (λ (o : Option (List ℕ)). IsFaultIfSpecified problem_texts broken o left fault)
     (ap (λ v. Some v.now) c.new.ensures.inner) c.in-Err.ensures.reads.err in
     let is = subst (λ n. c.of_text.result ≡ text_answer 1 fault n) (sym c.of_text.ensures.failure.size)
     c.of_text.ensures.is in
@@ -21,5 +21,5 @@ returns-in-Err c =
       ok = tt;
       failure = c.of_text.ensures.failure;
       refused = λ two. faulty problem_texts 1 text fault c.of_text.result two refl is
-          (has_cause problem_texts text broken left fault (problem_texts.cause fault) told);
+          (has_cause problem_texts text broken left fault (problem_texts.cause fault) reported);
     }

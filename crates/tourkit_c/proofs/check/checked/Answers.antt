@@ -1,7 +1,7 @@
 use Rattle.std.proofs.Common.{ap, Some}
 use Rattle.tk_writers.specs.Puts.{Writes}
 use Rattle.tourkit_c.proofs.InMemory.{to_memory}
-use Rattle.tourkit_c.proofs.Stops.{stop_of, tour_stop}
+use Rattle.tourkit_c.proofs.EngineStops.{stop_of, tour_stop}
 use Rattle.tourkit_c.proofs.check.checked.Goals as goal
 use Rattle.tourkit_c.specs.Answers.{NeverClashes}
 

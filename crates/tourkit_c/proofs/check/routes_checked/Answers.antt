@@ -1,7 +1,7 @@
 use Rattle.std.proofs.Common.{ap, Some}
 use Rattle.tk_writers.specs.Puts.{Writes}
 use Rattle.tourkit_c.proofs.InMemory.{to_memory}
-use Rattle.tourkit_c.proofs.Stops.{solution_stop, stop_of}
+use Rattle.tourkit_c.proofs.EngineStops.{solution_stop, stop_of}
 use Rattle.tourkit_c.proofs.check.routes_checked.Goals as goal
 use Rattle.tourkit_c.specs.Answers.{NeverClashes}
 

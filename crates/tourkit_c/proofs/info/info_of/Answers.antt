@@ -3,7 +3,7 @@ use Rattle.tk_text.specs.Problem.{problem_texts}
 use Rattle.tk_engines.specs.Engine.{WritesNothing}
 use Rattle.tk_engines.specs.Info.{info_outcome_task}
 use Rattle.tourkit_c.proofs.InMemory.{from_memory}
-use Rattle.tourkit_c.proofs.Stops.{stop_of}
+use Rattle.tourkit_c.proofs.EngineStops.{stop_of}
 use Rattle.tourkit_c.proofs.TextsSaid.{says}
 use Rattle.tourkit_c.proofs.info.info_of.Goals as goal
 use Rattle.tourkit_c.specs.Answers.{NeverClashes}

@@ -1,5 +1,5 @@
 use Rattle.std.proofs.Common.{refl}
-use Rattle.tourkit_c.proofs.HandingOut.{written}
+use Rattle.tourkit_c.proofs.HandedTexts.{written}
 use Rattle.tourkit_c.proofs.Refusals.{problem_refusal}
 use Rattle.tourkit_c.proofs.info.tourkit_info.Goals as goal
 use Rattle.tourkit_c.specs.Answers.{fits_any}

@@ -1,6 +1,6 @@
 use Rattle.std.proofs.Common.{◌∙◌, arith, inl, inr, refl}
 use Rattle.tourkit_c.specs.Plotted.{IsSolutionFault, IsTourFault}
-use Rattle.tourkit_c.proofs.HandingOut.{both_written}
+use Rattle.tourkit_c.proofs.HandedTexts.{both_written}
 use Rattle.tourkit_c.proofs.Refusals.{faulty, right_refusal}
 use Rattle.tourkit_c.proofs.plot.drawn.Goals as goal
 

@@ -16,9 +16,9 @@ returns-in-Ok-Some-clause-given c = λ done.
 
 pub returns-in-Ok-Some-clause-refused : goal.returns-in-Ok-Some-clause-refused
 returns-in-Ok-Some-clause-refused c = λ high.
-    let told = c.verdict_in.ensures in
-    let three : c.verdict_in.result.status ≡ 3 = omega (arith, told.known, told.unrefused, high) in
-    told.memory three ∙ ap (λ s. with_status s 0) (sym three)
+    let reported = c.verdict_in.ensures in
+    let three : c.verdict_in.result.status ≡ 3 = omega (arith, reported.known, reported.unrefused, high) in
+    reported.memory three ∙ ap (λ s. with_status s 0) (sym three)
 
 pub returns-in-Ok-Some-clause-places : goal.returns-in-Ok-Some-clause-places
 returns-in-Ok-Some-clause-places c = λ _ _. rw c.in-Ok-Some.field-0-is at c.in-Ok-Some.ensures.some

@@ -2,7 +2,7 @@ use Rattle.std.proofs.Common.{◌∙◌, ap, is_some, refl, Some}
 use Rattle.tk_engines.specs.Solve.{WritesFiles}
 use Rattle.tourkit_c.proofs.InMemory.{from_memory, to_memory}
 use Rattle.tourkit_c.proofs.SolveTexts.{initial_clash, initial_stop, solve_said}
-use Rattle.tourkit_c.proofs.Stops.{stop_of}
+use Rattle.tourkit_c.proofs.EngineStops.{stop_of}
 use Rattle.tourkit_c.proofs.solve.solved.Goals as goal
 use Rattle.tourkit_c.specs.Solved.{IsClashOf}
 

@@ -11,4 +11,4 @@ returns-in-Err-clause-parameters c = λ two _.
 pub returns-in-Err-clause-refused : goal.returns-in-Err-clause-refused
 returns-in-Err-clause-refused c = λ two other.
     absurd (other (ap (λ (a : Answer). a.text) (params_refused c.args.parameters.now c.in-Err.fault
-    c.params_stopped.result two c.params_stopped.ensures.is c.in-Err.ensures.err).told))
+    c.params_stopped.result two c.params_stopped.ensures.is c.in-Err.ensures.err).reported))

@@ -1,5 +1,5 @@
 use Rattle.std.proofs.Common.{arith, refl}
-use Rattle.tourkit_c.proofs.HandingOut.{both_written}
+use Rattle.tourkit_c.proofs.HandedTexts.{both_written}
 use Rattle.tourkit_c.proofs.Refusals.{faulty, right_refusal}
 use Rattle.tourkit_c.proofs.solve_routes.search.Goals as goal
 use Rattle.tourkit_c.specs.Answers.{NoFault}

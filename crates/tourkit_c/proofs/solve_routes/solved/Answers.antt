@@ -2,7 +2,7 @@ use Rattle.std.proofs.Common.{◌∙◌, ap, refl, Some}
 use Rattle.tk_engines.specs.Solve.{WritesFiles}
 use Rattle.tourkit_c.proofs.InMemory.{from_memory, to_memory}
 use Rattle.tourkit_c.proofs.RouteTexts.{between_said, start_clash, start_stop}
-use Rattle.tourkit_c.proofs.Stops.{stop_of}
+use Rattle.tourkit_c.proofs.EngineStops.{stop_of}
 use Rattle.tourkit_c.proofs.solve_routes.solved.Goals as goal
 use Rattle.tourkit_c.specs.SolvedRoutes.{IsStartClash}
 

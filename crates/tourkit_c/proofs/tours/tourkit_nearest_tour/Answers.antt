@@ -18,7 +18,7 @@ returns-in-Ok-clause-refused c = λ two. inr (record {
   p = problem_is c.in-Ok.problem;
   is_problem = c.in-Ok.ensures.ok;
   none = c.nearest_written.ensures.outside two;
-  told = c.nearest_written.ensures.refused two;
+  reported = c.nearest_written.ensures.refused two;
 })
 
 pub returns-in-Err-clause-refused : goal.returns-in-Err-clause-refused

@@ -3,7 +3,7 @@ use Rattle.std.proofs.lemmas.List.{take_all}
 use Rattle.std.proofs.lemmas.List.Elements.{All-take}
 use Rattle.tk_near.specs.Near.{near_of}
 use Rattle.tk_descent.specs.Offers.{offers_between, first_allowed, offers}
-use Rattle.tk_descent.specs.Sharing.{IsPiece}
+use Rattle.tk_descent.specs.Sharing.{IsRemovedSegment}
 use Rattle.tk_descent.proofs.OfferLists.Searching.{Searched-more, Searched-early, Searched-none, with_city, on_list}
 use Rattle.tk_descent.proofs.OfferLists.Searching.{beside_offers}
 use Rattle.tk_descent.specs.Ruled.{Each, IsOnTour}
@@ -76,7 +76,7 @@ returns-clause-bound g c =
 pub try_city-requires-clause-pieces : goal.try_city-requires-clause-pieces
 try_city-requires-clause-pieces g c =
     let m = c.args.metric.now in
-    All-take (IsPiece (g.M.Metric.size_of m) (g.M.Metric.distance m) c.look_beside-from.result.city)
+    All-take (IsRemovedSegment (g.M.Metric.size_of m) (g.M.Metric.distance m) c.look_beside-from.result.city)
     c.segment_count.result c.pieces_of-all.result c.pieces_of-all.ensures.shared
 
 pub returns-clause-searched : goal.returns-clause-searched

@@ -1,6 +1,6 @@
 use Rattle.std.proofs.Common.{take, flat_map, None}
 use Rattle.tk_descent.specs.Offers.{Searched, offers_between}
-use Rattle.tk_descent.specs.Steps.{AreMeasured}
+use Rattle.tk_descent.specs.EdgeCache.{AreMeasured}
 use Rattle.tk_descent.proofs.looks.looking.find_offer.Given as goal
 
 abbrev pub invariant-loop-y : goal.invariant-loop-y

@@ -1,7 +1,7 @@
 use Rattle.std.proofs.Common.{sym}
 use Rattle.tk_near.specs.Near.{near_of}
 use Rattle.tk_descent.proofs.MovesOnTours.Rounds.{round_of}
-use Rattle.tk_descent.proofs.WakeRuns.Machines.{none_improves, rules_nothing}
+use Rattle.tk_descent.proofs.WakeExecutions.Machines.{none_improves, rules_nothing}
 use Rattle.tk_descent.specs.Offers.{everything}
 use Rattle.tk_descent.specs.WakeMachine.{each_cycle}
 use Rattle.tk_descent.proofs.looks.looking.look.Goals as goal

@@ -5,9 +5,9 @@ use Rattle.tk_descent.proofs.looks.segments.segments_of.Goals as goal
 
 pub returns-clause-inside : goal.returns-clause-inside
 returns-clause-inside g c =
-    let a = c.around-around.ensures in
-    let on : length c.around-around.result.after ≡ 3 = ap length a.around.after in
-    let back : length c.around-around.result.before ≡ 3 = ap length a.around.before in
+    let a = c.neighbourhood-neighbourhood.ensures in
+    let on : length c.neighbourhood-neighbourhood.result.after ≡ 3 = ap length a.neighbourhood.after in
+    let back : length c.neighbourhood-neighbourhood.result.before ≡ 3 = ap length a.neighbourhood.before in
     let after = λ (k : ℕ) (lt : k < 3). a.after k 0 (omega (arith, lt, on)) in
     let before = λ (k : ℕ) (lt : k < 3). a.before k 0 (omega (arith, lt, back)) in
     all_of_five (IsSegmentIn (length (g.S.TourStore.cities c.args.tour.now))) _ _ _ _ _

@@ -2,7 +2,7 @@ use Rattle.std.proofs.Common.{◌≡◌, ◌<◌, ◌∙◌, ℕ, ℤ, pos, to_z
 use Rattle.std.proofs.Common.{arith}
 use Rattle.std.proofs.lemmas.Int.{ints}
 use Rattle.tk_descent.specs.Offers.{IsSegmentIn}
-use Rattle.tk_descent.specs.Sharing.{IsPiece}
+use Rattle.tk_descent.specs.Sharing.{IsRemovedSegment}
 use Rattle.tk_descent.specs.declared.offer.Segment.{Segment}
 use Rattle.tk_descent.proofs.OfferLists.Searching.{all_of_five}
 use Rattle.tk_descent.proofs.looks.sharing.pieces_of.Given.{Over}
@@ -65,6 +65,6 @@ returns-clause-value g c =
 
 pub returns-clause-shared : goal.returns-clause-shared
 returns-clause-shared g c =
-    all_of_five (IsPiece (g.M.Metric.size_of c.args.metric.now) (g.M.Metric.distance c.args.metric.now)
+    all_of_five (IsRemovedSegment (g.M.Metric.size_of c.args.metric.now) (g.M.Metric.distance c.args.metric.now)
     c.args.x.now.city) _ _ _ _ _ c.measure_piece.ensures.shared c.measure_longer.ensures.shared
     c.measure_longer-2.ensures.shared c.measure_longer-3.ensures.shared c.measure_longer-4.ensures.shared

@@ -1,5 +1,5 @@
 use Rattle.std.proofs.Common.{ap, arith, refl}
-use Rattle.tk_descent.proofs.WakeRuns.Queue.{few_awake}
+use Rattle.tk_descent.proofs.WakeExecutions.Queue.{few_awake}
 use Rattle.tk_descent.proofs.waking.Waking.len.Goals as goal
 
 pub returns-clause-limit : goal.returns-clause-limit

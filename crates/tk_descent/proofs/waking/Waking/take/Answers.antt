@@ -1,5 +1,5 @@
 use Rattle.std.proofs.Common.{arith, ap, ◌∙◌}
-use Rattle.tk_descent.proofs.WakeRuns.Queue.{taken}
+use Rattle.tk_descent.proofs.WakeExecutions.Queue.{taken}
 use Rattle.tk_descent.proofs.waking.Waking.take.Goals as goal
 
 pub index_mut-requires : goal.index_mut-requires

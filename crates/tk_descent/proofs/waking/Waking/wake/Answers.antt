@@ -1,6 +1,6 @@
 use Rattle.std.proofs.lemmas.Grind.{common_steps}
 use Rattle.std.proofs.Common.{arith, ap, ◌∙◌, ◌<◌, length}
-use Rattle.tk_descent.proofs.WakeRuns.Queue.{pushed_ring, IsWaking-wake}
+use Rattle.tk_descent.proofs.WakeExecutions.Queue.{pushed_ring, IsWaking-wake}
 use Rattle.tk_descent.proofs.waking.Waking.wake.Goals as goal
 
 pub invariant_of-self : goal.invariant_of-self

@@ -1,6 +1,6 @@
 use Rattle.std.proofs.Common.{ap, ◌∙◌, ◌+◌}
 use Rattle.tk_descent.specs.Awake.{woken}
-use Rattle.tk_descent.proofs.WakeRuns.Woken.{wake_next}
+use Rattle.tk_descent.proofs.WakeExecutions.WokenQueue.{wake_next}
 use Rattle.tk_descent.proofs.waking.Waking.wake_all.Goals as goal
 
 pub loop-k-preserved : goal.loop-k-preserved

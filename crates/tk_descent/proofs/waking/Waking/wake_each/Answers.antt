@@ -1,6 +1,6 @@
 use Rattle.std.proofs.Common.{ap, ◌∙◌, get_or}
 use Rattle.tk_descent.specs.Awake.{woken}
-use Rattle.tk_descent.proofs.WakeRuns.Woken.{wake_more}
+use Rattle.tk_descent.proofs.WakeExecutions.WokenQueue.{wake_more}
 use Rattle.tk_descent.proofs.waking.Waking.wake_each.Goals as goal
 
 pub loop-c-preserved : goal.loop-c-preserved

@@ -2,7 +2,7 @@ use Rattle.std.proofs.Common.{[]}
 use Rattle.tk_engines.specs.Between.{between_task}
 use Rattle.tk_engines.specs.Engine.{BeforeSecond, UnlessWrite}
 use Rattle.tk_engines.specs.Solve.{AreUntouched, BeforeSearch, WritesFiles, files_with}
-use Rattle.tk_engines.proofs.Ends.{ends_as, failed_as, if_unwritten}
+use Rattle.tk_engines.proofs.EngineEnds.{ends_as, failed_as, if_unwritten}
 use Rattle.tk_engines.proofs.engines.between.between_engine.Goals as goal
 
 pub returns : goal.returns

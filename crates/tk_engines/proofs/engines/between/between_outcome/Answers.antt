@@ -1,5 +1,5 @@
 use Rattle.tk_engines.specs.Engine.{WritesNothing}
-use Rattle.tk_engines.proofs.Ends.{problem_read}
+use Rattle.tk_engines.proofs.EngineEnds.{problem_read}
 use Rattle.tk_engines.proofs.TextsRead.{is_read}
 use Rattle.tk_engines.proofs.engines.between.between_outcome.Goals as goal
 

@@ -1,5 +1,5 @@
 use Rattle.tk_engines.specs.Engine.{WritesNothing}
-use Rattle.tk_engines.proofs.Ends.{second_reached, second_read}
+use Rattle.tk_engines.proofs.EngineEnds.{second_reached, second_read}
 use Rattle.tk_engines.proofs.RouteChecks.{routing_fits}
 use Rattle.tk_engines.proofs.engines.between.search_between.Goals as goal
 

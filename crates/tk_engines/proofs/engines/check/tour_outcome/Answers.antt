@@ -1,6 +1,6 @@
 use Rattle.std.proofs.Common.{refl}
 use Rattle.tk_engines.specs.Engine.{WritesNothing}
-use Rattle.tk_engines.proofs.Ends.{problem_read, second_reached}
+use Rattle.tk_engines.proofs.EngineEnds.{problem_read, second_reached}
 use Rattle.tk_engines.proofs.TextsRead.{is_read}
 use Rattle.tk_engines.proofs.engines.check.tour_outcome.Goals as goal
 

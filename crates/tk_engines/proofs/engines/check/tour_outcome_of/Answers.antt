@@ -1,6 +1,6 @@
 use Rattle.std.proofs.Common.{refl}
 use Rattle.tk_problem_text.specs.ProblemOf.{problem_is}
-use Rattle.tk_engines.proofs.Lengths.{outcome_right}
+use Rattle.tk_engines.proofs.TourLengths.{outcome_right}
 use Rattle.tk_engines.proofs.TextsRead.{is_read}
 use Rattle.tk_engines.proofs.engines.check.tour_outcome_of.Goals as goal
 

@@ -3,7 +3,7 @@ use Rattle.tk_problem_text.specs.ProblemOf.{problem_is}
 use Rattle.tk_writers.specs.Puts.{Writes}
 use Rattle.tk_engines.specs.MatrixOf.{IsReadAs, by_distances, matrix_of, matrix_task}
 use Rattle.tk_engines.specs.Engine.{UnlessWrite}
-use Rattle.tk_engines.proofs.Ends.{ended, failed_as, if_unwritten}
+use Rattle.tk_engines.proofs.EngineEnds.{ended, failed_as, if_unwritten}
 use Rattle.tk_engines.proofs.engines.matrix.matrix_engine.Goals as goal
 
 pub returns : goal.returns

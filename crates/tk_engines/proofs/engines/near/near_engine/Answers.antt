@@ -1,7 +1,7 @@
 use Rattle.tk_writers.specs.Puts.{Writes}
 use Rattle.tk_engines.specs.NearText.{near_outcome_task, near_text}
 use Rattle.tk_engines.specs.Engine.{UnlessWrite}
-use Rattle.tk_engines.proofs.Ends.{ends_as, failed_as, if_unwritten}
+use Rattle.tk_engines.proofs.EngineEnds.{ends_as, failed_as, if_unwritten}
 use Rattle.tk_engines.proofs.engines.near.near_engine.Goals as goal
 
 pub returns : goal.returns

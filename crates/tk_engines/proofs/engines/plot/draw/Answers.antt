@@ -3,7 +3,7 @@ use Rattle.std.specs.Prelude.{IfSome}
 use Rattle.tk_problem.specs.PlacesOf.{places_of}
 use Rattle.tk_distance.specs.Cities.{IsCity}
 use Rattle.tk_picture.specs.Pictures.{text_in}
-use Rattle.tk_engines.proofs.Shown.{picture_drawn}
+use Rattle.tk_engines.proofs.DrawnOutcomes.{picture_drawn}
 use Rattle.tk_engines.proofs.engines.plot.draw.Goals as goal
 
 pub write_picture-requires-clause-depot : goal.write_picture-requires-clause-depot

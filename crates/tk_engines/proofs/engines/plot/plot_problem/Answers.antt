@@ -3,7 +3,7 @@ use Rattle.tk_problem_text.specs.ProblemOf.{problem_is}
 use Rattle.tk_engines.specs.Engine.{HasRead, IsGiven}
 use Rattle.tk_engines.specs.Plot.{Drawn, Nothing, ReadsClaim, WritesOutput, plot_task}
 use Rattle.tk_engines.specs.declared.engines.plotted.Plotted.TheVariants as plotted
-use Rattle.tk_engines.proofs.Ends.{second_reached}
+use Rattle.tk_engines.proofs.EngineEnds.{second_reached}
 use Rattle.tk_engines.proofs.engines.plot.plot_problem.Given.{Over}
 use Rattle.tk_engines.proofs.engines.plot.plot_problem.Goals as goal
 use Rattle.tk_engines.proofs.engines.plot.plot_problem.Goals.{After-draw}
@@ -12,7 +12,7 @@ use Rattle.tk_engines.proofs.engines.plot.plot_problem.Goals.{After-draw}
 drawn : (g : Over) (c : After-draw g) →
     IsGiven (plot_task c.args.form.now c.args.has_claim) (HasRead (problem_is c.args.problem.now))
     (ReadsClaim c.args.has_claim g.C.Source c.args.claim.now c.args.claim.now)
-    (WritesOutput g.W.Sink g.T.Sink c.args.out.now c.draw.new.out c.args.told.now c.args.told.now c.draw.result)
+    (WritesOutput g.W.Sink g.T.Sink c.args.out.now c.draw.new.out c.args.reported.now c.args.reported.now c.draw.result)
     plotted.Cities
 drawn g c = record {
   problem = problem_is c.args.problem.now;
@@ -41,5 +41,5 @@ returns-clause-ends g c = rw (← c.if-not-has_claim.false) at c.plot_claim.ensu
 
 pub returns-clause-unread : goal.returns-clause-unread
 returns-clause-unread g c =
-    second_reached _ _ _ (WritesOutput g.W.Sink g.T.Sink c.args.out.now c.plot_claim.new.out c.args.told.now
-    c.plot_claim.new.told) _ c.in-Some.ensures.some.fits c.plot_claim.result c.plot_claim.ensures.ends
+    second_reached _ _ _ (WritesOutput g.W.Sink g.T.Sink c.args.out.now c.plot_claim.new.out c.args.reported.now
+    c.plot_claim.new.reported) _ c.in-Some.ensures.some.fits c.plot_claim.result c.plot_claim.ensures.ends

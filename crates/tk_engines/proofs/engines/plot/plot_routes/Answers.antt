@@ -8,7 +8,7 @@ use Rattle.tk_engines.proofs.ReadTables.{some_instance_read}
 use Rattle.tk_engines.specs.declared.engines.plotted.Plotted.TheVariants as plotted
 use Rattle.tk_engines.specs.Engine.{AreRead, HasRead, IsGiven}
 use Rattle.tk_engines.specs.Plot.{IsRouteOutput, ReadsClaim, RoutesClaim, WritesOutput, plot_task}
-use Rattle.tk_engines.proofs.Shown.{routed_of}
+use Rattle.tk_engines.proofs.DrawnOutcomes.{routed_of}
 use Rattle.tk_engines.specs.declared.fault.Fault.TheVariants as faults
 use Rattle.tk_engines.proofs.ClaimsPlotted.{unwritten}
 use Rattle.tk_engines.proofs.TextsRead.{is_read}
@@ -31,7 +31,7 @@ claimed g c = record {
 given : (g : Over) (c : After-show_routes g) →
     IsGiven (plot_task c.args.form.now true) (HasRead (problem_is c.args.problem.now))
     (ReadsClaim true g.C.Source c.args.claim.now c.read_solution.new.source)
-    (WritesOutput g.W.Sink g.T.Sink c.args.out.now c.show_routes.new.out c.args.told.now c.show_routes.new.told
+    (WritesOutput g.W.Sink g.T.Sink c.args.out.now c.show_routes.new.out c.args.reported.now c.show_routes.new.reported
     c.show_routes.result) (plotted.Routes c.in-Ok-check_routes.verdict)
 given g c =
     let p = c.args.problem.now in

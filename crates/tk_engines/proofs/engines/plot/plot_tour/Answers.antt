@@ -25,7 +25,7 @@ claimed g c = record {
 given : (g : Over) (c : After-show_tour g) →
     IsGiven (plot_task c.args.form.now true) (HasRead (problem_is c.args.problem.now))
     (ReadsClaim true g.C.Source c.args.claim.now c.read_tour.new.source)
-    (WritesOutput g.W.Sink g.T.Sink c.args.out.now c.show_tour.new.out c.args.told.now c.show_tour.new.told
+    (WritesOutput g.W.Sink g.T.Sink c.args.out.now c.show_tour.new.out c.args.reported.now c.show_tour.new.reported
     c.show_tour.result) (plotted.Tour c.in-Ok-check.verdict)
 given g c =
     let shown = rw c.as_slice-cities.ensures.value at c.show_tour.ensures.text in

@@ -6,7 +6,7 @@ use Rattle.tk_problem_text.specs.ProblemOf.{problem_is}
 use Rattle.tk_routes.specs.Cvrps.{instance_of}
 use Rattle.tk_picture.specs.Drawings.{SomeRoutes}
 use Rattle.tk_engines.specs.Plot.{Drawn, Refused, IsPicture}
-use Rattle.tk_engines.proofs.Shown.{routes_told, served_once}
+use Rattle.tk_engines.proofs.DrawnOutcomes.{routes_reported, served_once}
 use Rattle.tk_engines.proofs.engines.plot.show_routes.Goals as goal
 
 pub draw-requires-clause-fits : goal.draw-requires-clause-fits
@@ -22,16 +22,16 @@ returns-in-Valid-clause-text g c =
     let i = instance_of c.args.cvrp.now in
     let count = c.in-Valid.routes in
     let cost : c.unsigned_abs.result ≡ unsigned_abs c.in-Valid.cost = search rules in
-    let told = rw c.deref.ensures.value at c.draw.ensures.text in
+    let reported = rw c.deref.ensures.value at c.draw.ensures.text in
     let drawn = subst (λ (n : ℕ). IsPicture c.args.form.now (problem_is p)
-    (SomeRoutes i (map (λ r. r.items) c.args.solution.now.routes.items) count n) told.0) cost told.1.0 in
-    rw c.in-Valid.is (Drawn told.0, (drawn, (told.1.1, (refl, refl))))
+    (SomeRoutes i (map (λ r. r.items) c.args.solution.now.routes.items) count n) reported.0) cost reported.1.0 in
+    rw c.in-Valid.is (Drawn reported.0, (drawn, (reported.1.1, (refl, refl))))
 
 pub returns-in_default-clause-text : goal.returns-in_default-clause-text
 returns-in_default-clause-text g c =
-    let told = routes_told c.args.form.now c.args.problem.now (instance_of c.args.cvrp.now)
+    let reported = routes_reported c.args.form.now c.args.problem.now (instance_of c.args.cvrp.now)
     (map (λ r. r.items) c.args.solution.now.routes.items) c.args.verdict c.in_default.not-Valid in
-    (Refused _, (told, ((refl, refl), c.write_route_verdict.ensures.text)))
+    (Refused _, (reported, ((refl, refl), c.write_route_verdict.ensures.text)))
 
 pub returns-in-Valid-clause-failed : goal.returns-in-Valid-clause-failed
 returns-in-Valid-clause-failed g c =

@@ -2,7 +2,7 @@ use Rattle.std.proofs.Common.{ℕ, refl, subst, ◌∙◌}
 use Rattle.tk_problem_text.specs.ProblemOf.{problem_is}
 use Rattle.tk_picture.specs.Drawings.{ATour}
 use Rattle.tk_engines.specs.Plot.{Drawn, Refused, IsPicture}
-use Rattle.tk_engines.proofs.Shown.{length_read, tour_told}
+use Rattle.tk_engines.proofs.DrawnOutcomes.{length_read, tour_reported}
 use Rattle.tk_engines.proofs.engines.plot.show_tour.Goals as goal
 
 pub draw-requires-clause-fits : goal.draw-requires-clause-fits
@@ -13,11 +13,13 @@ returns-in-Tour-clause-text g c =
     let p = c.args.problem.now in
     let cities = c.args.cities.now in
     let size = c.length_of-length.ensures ∙ length_read p cities in
-    let told = c.draw.ensures.text in
-    let drawn = subst (λ (n : ℕ). IsPicture c.args.form.now (problem_is p) (ATour cities n) told.0) size told.1.0 in
-    rw c.in-Tour.is (Drawn told.0, (drawn, (told.1.1, (refl, refl))))
+    let reported = c.draw.ensures.text in
+    let drawn = subst (λ (n : ℕ). IsPicture c.args.form.now (problem_is p) (ATour cities n) reported.0) size
+    reported.1.0 in
+    rw c.in-Tour.is (Drawn reported.0, (drawn, (reported.1.1, (refl, refl))))
 
 pub returns-in_default-clause-text : goal.returns-in_default-clause-text
 returns-in_default-clause-text g c =
-    let told = tour_told c.args.form.now c.args.problem.now c.args.cities.now c.args.verdict c.in_default.not-Tour in
-    (Refused _, (told, ((refl, refl), rw c.of.ensures at c.write_tour_outcome.ensures.text)))
+    let reported = tour_reported c.args.form.now c.args.problem.now c.args.cities.now c.args.verdict
+    c.in_default.not-Tour in
+    (Refused _, (reported, ((refl, refl), rw c.of.ensures at c.write_tour_outcome.ensures.text)))

@@ -2,7 +2,7 @@ use Rattle.std.proofs.Common.{ap, arith, length, sym, ◌∙◌}
 use Rattle.tk_problem.specs.PlacesOf.{places_of}
 use Rattle.tk_problem_text.specs.ProblemOf.{weights_are}
 use Rattle.tk_engines.specs.Plot.{places_in, without_places}
-use Rattle.tk_engines.proofs.Shown.{points_size}
+use Rattle.tk_engines.proofs.DrawnOutcomes.{points_size}
 use Rattle.tk_engines.proofs.engines.plot.view_of.Goals as goal
 
 pub over-requires : goal.over-requires
@@ -21,7 +21,7 @@ returns-clause-some c =
     let read = ap (λ weights. places_in (weights_are weights)) c.in-Points.is in
     record {
       places = view ∙ c.places.ensures.places ∙ sym read;
-      frame = rw (← c.over.ensures.places) at c.over.ensures.frame;
+      extent = rw (← c.over.ensures.places) at c.over.ensures.extent;
       fits = ap (λ weights. without_places (weights_are weights)) c.in-Points.is;
       size = ap length (view ∙ c.places.ensures.places) ∙ size;
     }

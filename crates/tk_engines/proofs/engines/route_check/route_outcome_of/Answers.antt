@@ -1,5 +1,5 @@
 use Rattle.tk_engines.specs.Engine.{WritesNothing}
-use Rattle.tk_engines.proofs.Ends.{second_reached}
+use Rattle.tk_engines.proofs.EngineEnds.{second_reached}
 use Rattle.tk_engines.proofs.RouteChecks.{routing_fits}
 use Rattle.tk_engines.proofs.engines.route_check.route_outcome_of.Goals as goal
 

@@ -1,9 +1,9 @@
 use Rattle.tk_engines.specs.Engine.{WritesNothing}
-use Rattle.tk_engines.proofs.Ends.{problem_read}
+use Rattle.tk_engines.proofs.EngineEnds.{problem_read}
 use Rattle.tk_engines.proofs.TextsRead.{is_read}
 use Rattle.tk_engines.proofs.engines.search.search_outcome.Goals as goal
 
 pub returns-in-Ok-clause-ends : goal.returns-in-Ok-clause-ends
 returns-in-Ok-clause-ends g c =
     problem_read _ _ _ WritesNothing _ (is_read c.in-Ok.ensures.reads)
-    c.search_problem.result c.search_problem.ensures.ends
+    c.search_from.result c.search_from.ensures.ends

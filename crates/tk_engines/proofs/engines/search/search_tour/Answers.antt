@@ -1,5 +1,6 @@
 use Rattle.std.proofs.Common.{◌≡◌, ℕ, List, ◌∷◌, ap, ◌∙◌, subst, IfOk}
 use Rattle.tk_distance.specs.Tables.{table_distance}
+use Rattle.tk_params.specs.SearchOf.{search_is}
 use Rattle.tk_problem_text.specs.ProblemOf.{problem_is}
 use Rattle.tk_solve.specs.SolvedTours.{IsSolved, IsSound}
 use Rattle.tk_solve.specs.Starts.{TourTask, task_of, task_over}
@@ -14,9 +15,9 @@ use Rattle.tk_engines.proofs.engines.search.search_tour.Given.{Over}
 use Rattle.tk_engines.proofs.engines.search.search_tour.Goals as goal
 use Rattle.tk_engines.proofs.engines.search.search_tour.Goals.{After-solve_tour}
 
--- what is searched is what the parameters ask for
+-- what is searched is what the settings ask for
 asked : (g : Over) (c : After-solve_tour g) → task_of c.of.result c.options_of-options.result
-    ≡ tour_task c.args.params.now (problem_is c.args.problem.now) (cities_in c.args.initial.now)
+    ≡ tour_task (search_is c.args.settings.now) (problem_is c.args.problem.now) (cities_in c.args.initial.now)
 asked g c =
     let options = c.options_of-options.result in
     ap (λ (n : ℕ). task_over n (table_distance c.of.result) options) c.of.ensures.size

@@ -1,6 +1,6 @@
 use Rattle.tk_engines.specs.Engine.{BeforeSecond, UnlessWrite}
 use Rattle.tk_engines.specs.Solve.{AreUntouched, BeforeSearch, WritesFiles, files_of, search_task}
-use Rattle.tk_engines.proofs.Ends.{ends_as, failed_as, if_unwritten}
+use Rattle.tk_engines.proofs.EngineEnds.{ends_as, failed_as, if_unwritten}
 use Rattle.tk_engines.proofs.engines.solve.solve_engine.Goals as goal
 
 pub returns : goal.returns

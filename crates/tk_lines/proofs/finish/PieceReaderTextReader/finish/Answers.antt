@@ -1,6 +1,6 @@
 use Rattle.std.proofs.lemmas.Result.{err_from_is_err_and}
 use Rattle.tk_lines.specs.Reader.Places.{at_end}
-use Rattle.tk_lines.proofs.NarrowPlaces.{narrow}
+use Rattle.tk_lines.proofs.OneByteAfter.{narrow}
 use Rattle.tk_lines.proofs.finish.PieceReaderTextReader.finish.Goals as goal
 
 pub end_bytes-requires : goal.end_bytes-requires

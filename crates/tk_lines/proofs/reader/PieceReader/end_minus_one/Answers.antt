@@ -1,8 +1,8 @@
 use Rattle.std.proofs.Common.{◌∙◌, sym, ap}
 use Rattle.tk_words.specs.Lex.{integer}
 use Rattle.tk_words.specs.MinusOne.{is_minus_one}
-use Rattle.tk_lines.specs.declared.place.Place.TheVariants as places
-use Rattle.tk_lines.proofs.KnownPlaces.{at_place}
+use Rattle.tk_lines.specs.declared.line_state.LineState.TheVariants as places
+use Rattle.tk_lines.proofs.KnownStates.{at_place}
 use Rattle.tk_lines.proofs.Endings.AfterMinusOne.{one_ends, one_other, none_whole, minus_first}
 use Rattle.tk_lines.proofs.reader.PieceReader.end_minus_one.Goals as goal
 

@@ -1,8 +1,8 @@
 use Rattle.std.proofs.Common.{◌∙◌, List, ℕ, sym, subst}
 use Rattle.tk_words.specs.Lex.{IsUnbroken}
 use Rattle.tk_lines.specs.Reader.Places.{AtToken}
-use Rattle.tk_lines.specs.declared.place.Place.TheVariants as places
-use Rattle.tk_lines.proofs.KnownPlaces.{at_place}
+use Rattle.tk_lines.specs.declared.line_state.LineState.TheVariants as places
+use Rattle.tk_lines.proofs.KnownStates.{at_place}
 use Rattle.tk_lines.proofs.reader.PieceReader.end_token.Goals as goal
 
 pub returns-clause-closed : goal.returns-clause-closed
@@ -11,6 +11,6 @@ returns-clause-closed g c = λ next before within fed.
     let is = c.new-token.ensures ∙ c.as_slice.ensures ∙ c.replace-held.ensures.value in
     c.take_token.ensures.taken next before within (subst IsUnbroken (sym is) at.0.0) (record {
       line = fed.line;
-      at = subst (λ (held : List ℕ). AtToken g.F.Form.promise.format g.F.Form.promise.wants next
+      at = subst (λ (held : List ℕ). AtToken g.F.Handler.promise.format g.F.Handler.promise.wants next
           c.args.self.now.form c.args.self.now.line held before) (sym is) at.1;
     })

@@ -2,9 +2,9 @@ use Rattle.std.proofs.Common.{◌≡◌, [], refl, sym, ap, ◌∙◌, List, Som
 use Rattle.tk_words.specs.Lex.{Token}
 use Rattle.tk_words.specs.Words as words
 use Rattle.tk_lines.specs.Pieces.{After, Fault}
-use Rattle.tk_lines.specs.declared.place.Place.TheVariants as places
+use Rattle.tk_lines.specs.declared.line_state.LineState.TheVariants as places
 use Rattle.tk_lines.specs.Reader.Places.{DecidesIf}
-use Rattle.tk_lines.proofs.KnownPlaces.{at_place, told_word}
+use Rattle.tk_lines.proofs.KnownStates.{at_place, reported_word}
 use Rattle.tk_lines.proofs.LineSteps.{word_unknown, word_eof_ok, word_eof_err, word_section, word_tail}
 use Rattle.tk_lines.proofs.reader.PieceReader.end_word.Goals as goal
 
@@ -28,8 +28,8 @@ pub returns-in-Some-end-clause-closed : goal.returns-in-Some-end-clause-closed
 returns-in-Some-end-clause-closed g c = λ next before within fed.
     let at = at_place places.Word c.requires.place fed in
     rw c.fault-in-Some-end.ensures
-    (told_word (λ k. g.F.Form.promise.format.at_end at.1.before ≡ Some k)
-    (DecidesIf g.F.Form.promise.format next before) c.args.self.now.line c.in-Some-end.kind
+    (reported_word (λ k. g.F.Handler.promise.format.at_end at.1.before ≡ Some k)
+    (DecidesIf g.F.Handler.promise.format next before) c.args.self.now.line c.in-Some-end.kind
     (c.in-Some-end.ensures.fault at.1.before at.1.holds)
     (word_eof_err _ _ _ _ _ _ _ within at.0 at.1 c.in-Some.word
     (sym (c.in-Some.ensures ∙ ap words.keyword_of c.as_slice.ensures)) (sym c.in-EndsText.ensures)
@@ -39,10 +39,10 @@ pub returns-in-Err-clause-closed : goal.returns-in-Err-clause-closed
 returns-in-Err-clause-closed g c = λ next before within fed.
     let at = at_place places.Word c.requires.place fed in
     rw c.fault-in-Err.ensures
-    (told_word (λ k. (toks : List Token) (after : After) →
-    g.F.Form.promise.format.section at.1.before c.in-Some.word c.args.self.now.line toks after ≡ Some
+    (reported_word (λ k. (toks : List Token) (after : After) →
+    g.F.Handler.promise.format.section at.1.before c.in-Some.word c.args.self.now.line toks after ≡ Some
     (Fault c.args.self.now.line k))
-    (DecidesIf g.F.Form.promise.format next before) c.args.self.now.line c.in-Err.kind
+    (DecidesIf g.F.Handler.promise.format next before) c.args.self.now.line c.in-Err.kind
     (c.in-Err.ensures.err at.1.before c.args.self.now.line at.1.holds)
     (word_section _ _ _ _ _ _ _ within at.0 at.1 c.in-Some.word c.in-Err.kind
     (sym (c.in-Some.ensures ∙ ap words.keyword_of c.as_slice.ensures)) (sym c.in-BeginsSection.ensures)))

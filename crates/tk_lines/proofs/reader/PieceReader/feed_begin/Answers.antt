@@ -1,7 +1,7 @@
 use Rattle.std.proofs.Common.{refl, sym, ◌∙◌}
 use Rattle.std.proofs.lemmas.Bool.{ne_eqb}
-use Rattle.tk_lines.specs.declared.place.Place.TheVariants as places
-use Rattle.tk_lines.proofs.KnownPlaces.{at_place}
+use Rattle.tk_lines.specs.declared.line_state.LineState.TheVariants as places
+use Rattle.tk_lines.proofs.KnownStates.{at_place}
 use Rattle.tk_lines.proofs.Sections.SectionSteps.{begin_blank, begin_colon, begin_other}
 use Rattle.tk_lines.proofs.LineSteps.{blank_not_LF, line_behind-byte}
 use Rattle.tk_lines.proofs.reader.PieceReader.feed_begin.Goals as goal

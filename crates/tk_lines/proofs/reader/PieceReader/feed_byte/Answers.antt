@@ -1,8 +1,8 @@
 use Rattle.std.proofs.Common.{◌∙◌, sym}
 use Rattle.std.proofs.lemmas.Result.{err_from_is_err_and}
 use Rattle.tk_lines.specs.Reader.Places.{this}
-use Rattle.tk_lines.proofs.KnownPlaces.{told_byte, this_ends}
-use Rattle.tk_lines.proofs.NarrowPlaces.{narrow}
+use Rattle.tk_lines.proofs.KnownStates.{reported_byte, this_ends}
+use Rattle.tk_lines.proofs.OneByteAfter.{narrow}
 use Rattle.tk_lines.proofs.LineSteps.{decides_byte}
 use Rattle.tk_lines.proofs.reader.PieceReader.feed_byte.Goals as goal
 
@@ -16,7 +16,7 @@ pub returns-in_err-close : goal.returns-in_err-close
 returns-in_err-close g c = λ before fed.
     let p = err_from_is_err_and c.from_residual.result c.from_residual.ensures.1 in
     rw (p.1, p.2)
-    (told_byte g.F.Form.promise.format c.args.byte before c.in_err-close.field-0.0
+    (reported_byte g.F.Handler.promise.format c.args.byte before c.in_err-close.field-0.0
     (c.in_err-close.ensures.closed (this c.args.byte) before
     (this_ends c.args.byte c.args.self.now.place (sym c.ends_with.ensures ∙ c.if-not-ends_with.false))
     (narrow (this c.args.byte) fed)))
@@ -28,7 +28,7 @@ returns-in-Whole g c = λ before fed.
     (c.in_ok-close.ensures.closed (this c.args.byte) before
     (this_ends c.args.byte c.args.self.now.place (sym c.ends_with.ensures ∙ c.if-not-ends_with.false))
     (narrow (this c.args.byte) fed)) in
-    (decides_byte g.F.Form.promise.format c.args.byte before _ whole.0, whole.1)
+    (decides_byte g.F.Handler.promise.format c.args.byte before _ whole.0, whole.1)
 
 pub feed_settled-requires-in-On-clause-known : goal.feed_settled-requires-in-On-clause-known
 feed_settled-requires-in-On-clause-known g c = (

@@ -2,9 +2,9 @@ use Rattle.std.proofs.Common.{◌∷◌, [], length, sym, ap, ◌∙◌, arith}
 use Rattle.std.proofs.lemmas.List.{length-append}
 use Rattle.tk_words.specs.MinusOne.{begins_minus_one}
 use Rattle.tk_words.proofs.NumberLaws.MinusOne.{begins_short}
-use Rattle.tk_lines.specs.declared.place.Place.TheVariants as places
+use Rattle.tk_lines.specs.declared.line_state.LineState.TheVariants as places
 use Rattle.std.proofs.lemmas.Bool.{or_parts}
-use Rattle.tk_lines.proofs.KnownPlaces.{at_place}
+use Rattle.tk_lines.proofs.KnownStates.{at_place}
 use Rattle.tk_lines.proofs.Sections.SectionSteps.{run_more}
 use Rattle.tk_lines.proofs.Endings.MinusOneSteps.{after_byte}
 use Rattle.tk_lines.proofs.Endings.AfterMinusOne.{shown_later}

@@ -1,7 +1,7 @@
 use Rattle.std.proofs.Common.{[], refl, sym, ◌∙◌, arith}
 use Rattle.std.proofs.lemmas.Bool.{ne_eqb}
-use Rattle.tk_lines.specs.declared.place.Place.TheVariants as places
-use Rattle.tk_lines.proofs.KnownPlaces.{at_place}
+use Rattle.tk_lines.specs.declared.line_state.LineState.TheVariants as places
+use Rattle.tk_lines.proofs.KnownStates.{at_place}
 use Rattle.tk_lines.proofs.LineSteps.{is_letter-word, line_behind-byte, line_behind-LF, line_LF, line_byte, line_blank}
 use Rattle.tk_lines.proofs.LineSteps.{line_stray}
 use Rattle.tk_lines.proofs.reader.PieceReader.feed_start.Goals as goal

@@ -1,8 +1,8 @@
 use Rattle.std.proofs.Common.{◌∷◌, [], sym, ◌∙◌, arith}
 use Rattle.std.proofs.lemmas.List.{length-append}
-use Rattle.tk_lines.specs.declared.place.Place.TheVariants as places
+use Rattle.tk_lines.specs.declared.line_state.LineState.TheVariants as places
 use Rattle.std.proofs.lemmas.Bool.{or_parts}
-use Rattle.tk_lines.proofs.KnownPlaces.{at_place}
+use Rattle.tk_lines.proofs.KnownStates.{at_place}
 use Rattle.tk_lines.proofs.Sections.SectionSteps.{token_byte, run_more, token_long}
 use Rattle.tk_lines.proofs.LineSteps.{line_behind-byte}
 use Rattle.tk_lines.proofs.reader.PieceReader.feed_token.Goals as goal

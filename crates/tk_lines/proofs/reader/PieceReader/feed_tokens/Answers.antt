@@ -1,9 +1,9 @@
 use Rattle.std.proofs.Common.{ℕ, List, ◌+◌, ◌++◌, take, arith, subst, Ok, Err}
 use Rattle.std.proofs.lemmas.Result.{err_from_is_err_and}
-use Rattle.tk_lines.specs.declared.place.Flow.TheVariants.{Whole}
+use Rattle.tk_lines.specs.declared.line_state.Flow.TheVariants.{Whole}
 use Rattle.tk_lines.specs.Reader.Places.{Fed, anything}
 use Rattle.tk_lines.specs.Reader.Steps.{HasCome}
-use Rattle.tk_lines.proofs.TokenRuns.{token_run, token_taken, token_stands, token_within, line_within}
+use Rattle.tk_lines.proofs.WholeTokens.{token_run, token_taken, token_stands, token_within, line_within}
 use Rattle.tk_lines.proofs.reader.PieceReader.feed_tokens.Goals as goal
 
 pub feed_whole-requires-clause-run : goal.feed_whole-requires-clause-run
@@ -40,7 +40,7 @@ returns-in_err-feed_whole g c = λ before fed.
     let s = c.loop-self.start in
     let le = c.loop-self.invariant.within in
     let token = c.in-Some.token in
-    let told =
+    let reported =
     c.in_err-feed_whole.ensures _ (token_stands bytes s le token c.in-Some.ensures _ c.len.ensures c.loop-self.self
     before c.in-Gap.is
     (c.loop-self.invariant.fed before fed)) in
@@ -49,9 +49,9 @@ returns-in_err-feed_whole g c = λ before fed.
       s + c.len.result + 1,
       omega (arith, token_within bytes s le token c.in-Some.ensures _ c.len.ensures),
       (subst
-          (λ (l : List ℕ). HasCome g.F.Form.promise anything c.feed_whole.new.self l
+          (λ (l : List ℕ). HasCome g.F.Handler.promise anything c.feed_whole.new.self l
           (Err c.in_err-feed_whole.field-0.0))
-          (token_taken bytes s le token c.in-Some.ensures _ c.len.ensures before) told),
+          (token_taken bytes s le token c.in-Some.ensures _ c.len.ensures before) reported),
     )
 
 pub returns-in-Whole : goal.returns-in-Whole
@@ -67,7 +67,7 @@ returns-in-Whole g c = λ before fed.
     (c.loop-self.invariant.fed before fed))) in (
       s + c.len.result + 1,
       omega (arith, token_within bytes s le token c.in-Some.ensures _ c.len.ensures),
-      (subst (λ (l : List ℕ). HasCome g.F.Form.promise anything c.feed_whole.new.self l (Ok Whole))
+      (subst (λ (l : List ℕ). HasCome g.F.Handler.promise anything c.feed_whole.new.self l (Ok Whole))
           (token_taken bytes s le token c.in-Some.ensures _ c.len.ensures before) whole),
     )
 
@@ -80,7 +80,7 @@ loop-self-preserved g c =
     record {
       within = omega (arith, token_within bytes s le token c.in-Some.ensures _ c.len.ensures);
       fed = λ before fed.
-          (subst (λ (l : List ℕ). Fed g.F.Form.promise anything c.feed_whole.new.self l)
+          (subst (λ (l : List ℕ). Fed g.F.Handler.promise anything c.feed_whole.new.self l)
           (token_taken bytes s le token c.in-Some.ensures _ c.len.ensures before)
           (rw c.in-On.is at
           (c.in_ok-feed_whole.ensures _ (token_stands bytes s le token c.in-Some.ensures _ c.len.ensures

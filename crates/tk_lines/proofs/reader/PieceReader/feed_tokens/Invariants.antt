@@ -6,8 +6,8 @@ use Rattle.tk_lines.proofs.reader.PieceReader.feed_tokens.Given as goal
 abbrev pub invariant-loop-self : goal.invariant-loop-self
 invariant-loop-self g l = record {
   within : l.start ≤ length l.bytes;
-  fed : (before : List ℕ) → Fed g.F.Form.promise anything l.initial.self before →
-      Fed g.F.Form.promise anything l.self (before ++ take l.start l.bytes);
+  fed : (before : List ℕ) → Fed g.F.Handler.promise anything l.initial.self before →
+      Fed g.F.Handler.promise anything l.self (before ++ take l.start l.bytes);
 }
 
 abbrev pub decreases-loop-self : goal.decreases-loop-self

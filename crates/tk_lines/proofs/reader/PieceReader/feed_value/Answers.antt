@@ -1,9 +1,9 @@
 use Rattle.std.proofs.Common.{◌∷◌, [], ◌++◌, sym, ◌∙◌, arith}
 use Rattle.std.proofs.lemmas.Bool.{ne_eqb, eq-eqb}
 use Rattle.std.proofs.lemmas.Result.{err_from_is_err_and}
-use Rattle.tk_lines.specs.declared.place.Place.TheVariants as places
+use Rattle.tk_lines.specs.declared.line_state.LineState.TheVariants as places
 use Rattle.tk_lines.specs.Reader.Places.{this, a_line_end}
-use Rattle.tk_lines.proofs.KnownPlaces.{at_place, told_byte, this_within}
+use Rattle.tk_lines.proofs.KnownStates.{at_place, reported_byte, this_within}
 use Rattle.tk_lines.proofs.LineSteps.{line_behind-byte, line_behind-LF, tail_byte, tail_long, header_LF}
 use Rattle.tk_lines.proofs.reader.PieceReader.feed_value.Goals as goal
 
@@ -11,7 +11,7 @@ pub returns-in_err-end_header : goal.returns-in_err-end_header
 returns-in_err-end_header g c = λ before fed.
     let p = err_from_is_err_and c.from_residual.result c.from_residual.ensures.1 in
     rw (p.1, p.2)
-    (told_byte g.F.Form.promise.format c.args.byte before c.in_err-end_header.field-0.0
+    (reported_byte g.F.Handler.promise.format c.args.byte before c.in_err-end_header.field-0.0
     (c.in_err-end_header.ensures.closed (this c.args.byte) before
     (this_within c.args.byte a_line_end (λ e more. eq-eqb _ _ c.if-byte-eq10.true)) fed))
 

@@ -5,4 +5,4 @@ use Rattle.tk_lines.proofs.reader.PieceReader.new.Goals as goal
 pub returns : goal.returns
 returns g c =
     fed_waits (record
-    { line = refl; at = from_first g.F.Form.promise.format g.F.Form.promise.holds c.args.form c.requires })
+    { line = refl; at = from_first g.F.Handler.promise.format g.F.Handler.promise.holds c.args.form c.requires })

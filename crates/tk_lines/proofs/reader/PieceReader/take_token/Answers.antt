@@ -1,8 +1,8 @@
 use Rattle.std.proofs.Common.{◌≡◌, ◌++◌, refl, Some, true}
 use Rattle.tk_lines.specs.Pieces.{Early}
 use Rattle.tk_lines.specs.Reader.Places.{DecidesIf}
-use Rattle.tk_lines.specs.Reader.Forms.{StopsAt, a_section, whole}
-use Rattle.tk_lines.proofs.KnownPlaces.{told_word}
+use Rattle.tk_lines.specs.Reader.Handlers.{StopsAt, a_section, whole}
+use Rattle.tk_lines.proofs.KnownStates.{reported_word}
 use Rattle.tk_lines.proofs.Sections.SectionSteps.{token_more, token_stops, token_eof_ok, token_eof_err, token_last}
 use Rattle.tk_lines.proofs.Endings.MinusOneSteps.{token_ending}
 use Rattle.tk_lines.proofs.reader.PieceReader.take_token.Goals as goal
@@ -11,8 +11,9 @@ pub returns-in-Err-clause-taken : goal.returns-in-Err-clause-taken
 returns-in-Err-clause-taken g c = λ next before within run stands.
     let at = stands.at in
     rw c.fault.ensures
-    (told_word (StopsAt g.F.Form.promise.format at.before at.word at.first at.toks
-    (whole c.args.token.now c.args.self.now.line)) (DecidesIf g.F.Form.promise.format next before) c.args.self.now.line
+    (reported_word (StopsAt g.F.Handler.promise.format at.before at.word at.first at.toks
+    (whole c.args.token.now c.args.self.now.line)) (DecidesIf g.F.Handler.promise.format next before)
+    c.args.self.now.line
     c.in-Err.kind (c.in-Err.ensures.err at.before at.word at.first at.toks c.args.self.now.line at.wants)
     (token_stops _ _ _ _ _ _ _ within run at c.in-Err.kind))
 
@@ -58,8 +59,8 @@ returns-in-Some-clause-taken g c = λ next before within run stands.
     rw c.in-Ok-Eof.field-0-is at
     (c.in-Ok-Eof.ensures.ok at.before at.word at.first at.toks c.args.self.now.line at.wants) in
     rw c.fault-in-Some.ensures
-    (told_word (λ k. g.F.Form.promise.format.at_end
+    (reported_word (λ k. g.F.Handler.promise.format.at_end
     (at.before ++ a_section at.word at.first at.toks (Early c.args.self.now.line true)) ≡ Some k)
-    (DecidesIf g.F.Form.promise.format next before) c.args.self.now.line c.in-Some.kind
+    (DecidesIf g.F.Handler.promise.format next before) c.args.self.now.line c.in-Some.kind
     (c.in-Some.ensures.fault _ has.0)
     (token_eof_err _ _ _ _ _ _ _ within run at has.1 c.in-Some.kind))

@@ -1,6 +1,6 @@
 use Rattle.std.proofs.Common.{◌++◌, ℕ, List, subst, sym, arith}
 use Rattle.std.proofs.lemmas.Result.{err_from_is_err_and}
-use Rattle.tk_words.proofs.FirstBytes.{first_byte, first_told}
+use Rattle.tk_words.proofs.FirstBytes.{first_byte, first_reported}
 use Rattle.tk_lists.specs.Solution.{solution_texts}
 use Rattle.tk_lists.specs.Reader.SolutionReader.{FedLines}
 use Rattle.tk_lists.proofs.SolutionTexts.{fed_waits}
@@ -10,7 +10,7 @@ pub returns-in_err-feed_byte : goal.returns-in_err-feed_byte
 returns-in_err-feed_byte c = λ before waits.
     let p = err_from_is_err_and c.from_residual.result c.from_residual.ensures.1 in
     rw (p.1, p.2)
-    (first_told solution_texts before c.args.bytes.now c.requires.some c.in_err-feed_byte.field-0.0
+    (first_reported solution_texts before c.args.bytes.now c.requires.some c.in_err-feed_byte.field-0.0
     (c.in_err-feed_byte.ensures before waits.fed))
 
 pub returns : goal.returns

@@ -3,7 +3,7 @@ use Rattle.tk_words.specs.Texts.{DecidesEnded}
 use Rattle.tk_lines.specs.Pieces.{Fault}
 use Rattle.tk_lists.specs.Solution.{line_stop, solution_texts}
 use Rattle.tk_lists.specs.Reader.SolutionReader.{rest_of}
-use Rattle.tk_lines.proofs.KnownPlaces.{told_word}
+use Rattle.tk_lines.proofs.KnownStates.{reported_word}
 use Rattle.tk_lists.proofs.SolutionTexts.{end_stops, end_missing, end_whole}
 use Rattle.tk_lists.proofs.solution.SolutionReaderTextReader.finish.Goals as goal
 
@@ -12,7 +12,7 @@ returns-in-Err c = λ before waits.
     let s = c.args.self in
     let fed = waits.fed in
     rw (c.fault.ensures, c.end_line.ensures.line)
-    (told_word (λ k. line_stop fed.before s.line true (rest_of s fed.toks [] true) ≡ Some (Fault s.line k))
+    (reported_word (λ k. line_stop fed.before s.line true (rest_of s fed.toks [] true) ≡ Some (Fault s.line k))
     (DecidesEnded solution_texts before) s.line c.in-Err.kind
     (c.in-Err.ensures.err fed.before fed.toks fed.stands) (end_stops s before fed c.in-Err.kind))
 

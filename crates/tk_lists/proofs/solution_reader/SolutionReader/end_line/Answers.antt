@@ -1,12 +1,12 @@
 use Rattle.std.proofs.Common.{◌≡◌, ◌∷◌, ◌++◌, ◌+◌, [], Bool, true, List, Some, length}
 use Rattle.std.proofs.lemmas.Result.{err_from_is_err_and, IfOk-weaker, IfErr-weaker}
-use Rattle.tk_lines.specs.Reader.Forms.{whole}
+use Rattle.tk_lines.specs.Reader.Handlers.{whole}
 use Rattle.tk_words.specs.Lex.{Token}
 use Rattle.tk_lines.specs.Pieces.{Fault}
 use Rattle.tk_lists.specs.Solution.{line_stop, count_of, customer_stop, cost_stop}
 use Rattle.tk_lists.specs.Reader.SolutionReader.{line_from}
 use Rattle.tk_lists.specs.declared.solution_reader.LinePlace.TheVariants as places
-use Rattle.tk_lines.proofs.Pieces.ToldFaults.{told_word}
+use Rattle.tk_lines.proofs.Pieces.ReportedFaults.{reported_word}
 use Rattle.tk_lists.proofs.SolutionEnds.{end_start, end_skip, end_other, end_close, end_gap, end_customer}
 use Rattle.tk_lists.proofs.SolutionEnds.{end_customer_stops, end_digits, end_digits_stops, end_colon_stops}
 use Rattle.tk_lists.proofs.solution_reader.SolutionReader.end_line.Goals as goal
@@ -63,7 +63,7 @@ returns-in_err-take_customer-in-Customer-clause-err c = λ before toks stands.
     let at = rw c.in-Customer.is at stands in
     let p = err_from_is_err_and c.from_residual.result c.from_residual.ensures.1 in
     rw (c.in-Customer.is, p.1, p.2)
-    (told_word (λ k. customer_stop (count_of before + length toks) (whole held n) ≡ Some (Fault n k))
+    (reported_word (λ k. customer_stop (count_of before + length toks) (whole held n) ≡ Some (Fault n k))
     (λ k. line_stop before n true (line_from n held toks places.Customer [] true) ≡ Some (Fault n k)) k
     (end_customer_stops c.args.self.now.form before held n toks at.2 at.1 k)
     (rw c.as_slice.ensures at (c.in_err-take_customer-in-Customer.ensures.err before toks n at.0 at.1)))
@@ -95,7 +95,7 @@ returns-in-Digits-clause-err c = λ before toks stands.
     let at = rw c.in-Digits.is at stands in
     rw c.in-Digits.is
     (IfErr-weaker c.take_cost.result
-    _ _ (λ k h. told_word (λ k. (ended : Bool) (ts : List Token) →
+    _ _ (λ k h. reported_word (λ k. (ended : Bool) (ts : List Token) →
     cost_stop n ended (whole held n ∷ ts) ≡ Some (Fault n k))
     (λ k. line_stop before n true (line_from n held toks places.Digits [] true) ≡ Some (Fault n k)) k
     (end_digits_stops c.args.self.now.form before held n toks at.3 at.2 k) h)

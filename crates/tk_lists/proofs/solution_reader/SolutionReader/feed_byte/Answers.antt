@@ -6,7 +6,7 @@ use Rattle.tk_lists.specs.Solution.{line_stop, solution_texts}
 use Rattle.tk_lists.specs.Reader.SolutionReader.{FedLines, LineStopsAt, rest_of}
 use Rattle.tk_lists.specs.declared.solution_reader.LinePlace.TheVariants as places
 use Rattle.tk_lists.specs.declared.solution_reader.SolutionReader.{SolutionReader}
-use Rattle.tk_lines.proofs.KnownPlaces.{told_word}
+use Rattle.tk_lines.proofs.KnownStates.{reported_word}
 use Rattle.tk_lists.proofs.SolutionTexts.{fed_byte, fed_LF, byte_stops, LF_stops}
 use Rattle.tk_lists.proofs.solution_reader.SolutionReader.feed_byte.Goals as goal
 
@@ -21,7 +21,7 @@ returns-in-Err c = λ before fed.
     let b = c.args.byte in
     let k = c.in-Err.kind in
     rw (c.fault.ensures, c.feed_line.ensures.line)
-    (told_word (LineStopsAt fed.before s.line b (rest_of s fed.toks)) (Decides solution_texts (before ++ b ∷ []))
+    (reported_word (LineStopsAt fed.before s.line b (rest_of s fed.toks)) (Decides solution_texts (before ++ b ∷ []))
     s.line k (c.in-Err.ensures.err fed.before fed.toks fed.stands)
     (byte_stops s before fed k b (ne_eqb _ _ c.if-byte-ne10.true)))
 
@@ -31,7 +31,7 @@ returns-in-Err-end_line c = λ before fed.
     let b = c.args.byte in
     let k = c.in-Err-end_line.kind in
     rw (c.fault-in-Err-end_line.ensures, c.end_line.ensures.line)
-    (told_word (λ k. line_stop fed.before s.line true (rest_of s fed.toks [] true) ≡ Some (Fault s.line k))
+    (reported_word (λ k. line_stop fed.before s.line true (rest_of s fed.toks [] true) ≡ Some (Fault s.line k))
     (Decides solution_texts (before ++ b ∷ [])) s.line k (c.in-Err-end_line.ensures.err fed.before fed.toks fed.stands)
     (λ h. subst (λ (x : ℕ). Decides solution_texts (before ++ x ∷ []) (Err (record { line = s.line; kind = k })))
     (sym c.if-byte-ne10.false) (LF_stops s before fed k h)))

@@ -1,11 +1,11 @@
 use Rattle.std.proofs.Common.{◌≡◌, ◌+◌, ◌∷◌, ◌++◌, [], length, Some, sym, ◌∙◌}
 use Rattle.std.proofs.lemmas.Result.{err_from_is_err_and}
-use Rattle.tk_lines.specs.Reader.Forms.{whole}
+use Rattle.tk_lines.specs.Reader.Handlers.{whole}
 use Rattle.tk_lines.specs.Pieces.{Fault}
 use Rattle.tk_lists.specs.Solution.{count_of, customer_stop}
 use Rattle.tk_lists.specs.Reader.SolutionReader.{LineStopsAt, line_from}
 use Rattle.tk_lists.specs.declared.solution_reader.LinePlace.TheVariants as places
-use Rattle.tk_lines.proofs.Pieces.ToldFaults.{told_word}
+use Rattle.tk_lines.proofs.Pieces.ReportedFaults.{reported_word}
 use Rattle.tk_lists.proofs.SolutionSteps.{customer_same, customer_more, customer_stops, customer_long, token_grows}
 use Rattle.tk_lists.proofs.solution_reader.SolutionReader.feed_customer.Goals as goal
 
@@ -14,7 +14,7 @@ returns-in_err-take_customer-clause-err c = λ before toks at.
     let n = c.args.self.now.line in
     let held = c.args.self.now.held in
     let p = err_from_is_err_and c.from_residual.result c.from_residual.ensures.1 in
-    rw (p.1, p.2) (told_word (λ k. customer_stop (count_of before + length toks) (whole held n) ≡ Some (Fault n k))
+    rw (p.1, p.2) (reported_word (λ k. customer_stop (count_of before + length toks) (whole held n) ≡ Some (Fault n k))
     (LineStopsAt before n c.args.byte (line_from n held toks places.Customer)) c.in_err-take_customer.field-0.0
     (customer_stops before n c.args.byte held toks (sym c.blank.ensures ∙ c.if-blank.true) at.2 at.1
     c.in_err-take_customer.field-0.0)

@@ -9,7 +9,7 @@ use Rattle.tk_lists.specs.Solution.{cost_tests}
 use Rattle.tk_lists.specs.Reader.SolutionReader.{LineStopsAt, line_from}
 use Rattle.tk_lists.specs.declared.route_head.HeadPlace.TheVariants as heads
 use Rattle.tk_lists.specs.declared.solution_reader.LinePlace.TheVariants as places
-use Rattle.tk_lines.proofs.Pieces.ToldFaults.{told_word}
+use Rattle.tk_lines.proofs.Pieces.ReportedFaults.{reported_word}
 use Rattle.tk_lists.proofs.SolutionSteps.{went_same, ok_same, err_same}
 use Rattle.tk_lists.proofs.SolutionWords.{front_short, word_goes_on, grown_other, ended_route, ended_cost, ended_other}
 use Rattle.tk_lists.proofs.SolutionWords.{route_stops}
@@ -95,7 +95,7 @@ returns-in_err-begin_route-in-Route-clause-err c = λ before keeps.
     let k = c.in_err-begin_route-in-Route.field-0.0 in
     let p = err_from_is_err_and c.from_residual.result c.from_residual.ensures.1 in
     rw (p.1, p.2)
-    (told_word (λ k. first_at n (route_tests before) ≡ Some (Fault n k))
+    (reported_word (λ k. first_at n (route_tests before) ≡ Some (Fault n k))
     (LineStopsAt before n b (line_from n c.args.self.now.held [] places.Word)) k
     (λ stop bs w. rw (same bs w) (route_stops before n w (Fault n k) (route_head (b ∷ bs)) stop))
     (c.in_err-begin_route-in-Route.ensures.err before n keeps))
@@ -109,7 +109,7 @@ returns-in_err-begin_cost-in-Cost-clause-err c = λ before keeps.
     err_from_is_err_and c.from_residual-in_err-begin_cost-in-Cost.result
     c.from_residual-in_err-begin_cost-in-Cost.ensures.1 in
     rw (p.1, p.2)
-    (told_word (λ k. first_at n (cost_tests before) ≡ Some (Fault n k))
+    (reported_word (λ k. first_at n (cost_tests before) ≡ Some (Fault n k))
     (LineStopsAt before n c.args.byte (line_from n c.args.self.now.held [] places.Word)) k
     (λ stop bs w. rw (same bs w, stop) refl) (c.in_err-begin_cost-in-Cost.ensures.err before n keeps))
 

@@ -1,7 +1,7 @@
 use Rattle.std.proofs.Common.{arith, ◌≡◌, ◌+◌, ◌<◌, ◌∙◌, length}
-use Rattle.tk_near.specs.Placed.{IsAt, nowhere, placed_city}
-use Rattle.tk_near.proofs.InPlane.OfRows.{IsAt-before}
-use Rattle.tk_near.proofs.Tables.{AreFilledAmong-write, AreFilledAmong-none, AreFilledAmong-same}
+use Rattle.tk_near.specs.CityPoint.{IsAt, nowhere, placed_city}
+use Rattle.tk_near.proofs.InPlane.RowCandidates.{IsAt-before}
+use Rattle.tk_near.proofs.FlatLists.{AreFilledAmong-write, AreFilledAmong-none, AreFilledAmong-same}
 use Rattle.tk_near.proofs.plane.sweep.fill_lists.Goals as goal
 
 pub loop-p-init : goal.loop-p-init

@@ -1,6 +1,6 @@
 use Rattle.std.proofs.Common.{◌<◌, ◌≡◌, length}
 use Rattle.tk_near.specs.Keeping.{AreFilled}
-use Rattle.tk_near.specs.Placed.{IsAt}
+use Rattle.tk_near.specs.CityPoint.{IsAt}
 use Rattle.tk_near.proofs.plane.sweep.fill_lists.Given as goal
 
 abbrev pub invariant-loop-p : goal.invariant-loop-p

@@ -1,6 +1,6 @@
 use Rattle.std.proofs.Common.{refl, length}
 use Rattle.tk_near.specs.Keeping.{candidate, rank}
-use Rattle.tk_near.proofs.Inserting.{before_false, insert_by-full}
+use Rattle.tk_near.proofs.SortedInsertion.{before_false, insert_by-full}
 use Rattle.tk_near.proofs.plane.sweep.meet.Goals as goal
 
 pub returns-else-comes_before : goal.returns-else-comes_before

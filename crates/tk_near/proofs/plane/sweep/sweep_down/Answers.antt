@@ -1,4 +1,4 @@
-use Rattle.tk_near.proofs.InPlane.Sweeping.{swept_climbing, swept_down_near, swept_down_far}
+use Rattle.tk_near.proofs.InPlane.XSweep.{swept_climbing, swept_down_near, swept_down_far}
 use Rattle.tk_near.proofs.plane.sweep.sweep_down.Goals as goal
 
 pub returns-then-meet-clause-swept : goal.returns-then-meet-clause-swept

@@ -1,4 +1,4 @@
-use Rattle.tk_near.proofs.InPlane.Sweeping.{swept_climbing, swept_up_near, swept_up_far}
+use Rattle.tk_near.proofs.InPlane.XSweep.{swept_climbing, swept_up_near, swept_up_far}
 use Rattle.tk_near.proofs.plane.sweep.sweep_up.Goals as goal
 
 pub returns-then-meet-clause-swept : goal.returns-then-meet-clause-swept

@@ -1,6 +1,6 @@
 use Rattle.std.proofs.Common.{◌<◌, ◌≡◌, length}
 use Rattle.tk_near.specs.Keeping.{AreFilled}
-use Rattle.tk_near.specs.Placed.{IsAt}
+use Rattle.tk_near.specs.CityPoint.{IsAt}
 use Rattle.tk_near.proofs.plane.tree.fill_from_tree.Given as goal
 
 abbrev pub invariant-loop-here : goal.invariant-loop-here

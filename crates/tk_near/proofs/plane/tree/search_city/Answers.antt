@@ -1,8 +1,8 @@
 use Rattle.std.proofs.Common.{◌∙◌, ap, length}
 use Rattle.std.proofs.lemmas.List.{length-replicate}
-use Rattle.tk_near.specs.Keeping.{open_place}
+use Rattle.tk_near.specs.Keeping.{empty_slot}
 use Rattle.tk_near.specs.Tree.{entries_of, with_cities}
-use Rattle.tk_near.proofs.InPlane.Parting.{IsNear-from_row, with_cities-length}
+use Rattle.tk_near.proofs.InPlane.TreeCandidates.{IsNear-from_row, with_cities-length}
 use Rattle.tk_near.proofs.plane.tree.search_city.Goals as goal
 
 pub returns-clause-size : goal.returns-clause-size
@@ -10,7 +10,7 @@ returns-clause-size g c =
     ap length c.search.ensures
     ∙ with_cities-length (g.P.Metric.distance c.args.m.now) c.args.here.now.city (entries_of c.args.tree.now)
     c.clear.new.self.kept.items
-    ∙ ap length c.clear.ensures ∙ length-replicate (length c.args.many.now.kept.items) open_place
+    ∙ ap length c.clear.ensures ∙ length-replicate (length c.args.many.now.kept.items) empty_slot
 
 pub returns-clause-near : goal.returns-clause-near
 returns-clause-near g c =

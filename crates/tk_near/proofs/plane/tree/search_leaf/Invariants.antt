@@ -4,5 +4,5 @@ use Rattle.tk_near.proofs.plane.tree.search_leaf.Given as goal
 
 abbrev pub invariant-loop-there : goal.invariant-loop-there
 invariant-loop-there g l =
-    g.K.Keeper.kept_of l.keeper ≡ with_cities (g.P.Metric.distance l.m) l.here.city (take l.there-index l.leaf)
-    (g.K.Keeper.kept_of l.fn.keeper)
+    g.K.Collector.kept_of l.collector ≡ with_cities (g.P.Metric.distance l.m) l.here.city (take l.there-index l.leaf)
+    (g.K.Collector.kept_of l.fn.collector)

@@ -2,8 +2,8 @@ use Rattle.std.proofs.Common.{refl, ◌∷◌, [], ◌++◌}
 use Rattle.std.proofs.lemmas.Result.{err_from_is_err_and}
 use Rattle.tk_words.specs.Texts.{Decides}
 use Rattle.tk_params.specs.Params.{params_texts}
-use Rattle.tk_params.proofs.Feeds.{fed_line, line_faulty}
-use Rattle.tk_params.proofs.Told.{told_line}
+use Rattle.tk_params.proofs.ReaderBytes.{fed_line, line_faulty}
+use Rattle.tk_params.proofs.LineFaults.{reported_line}
 use Rattle.tk_params.proofs.reader.ParamReader.end_line.Goals as goal
 
 pub returns-in_err-take_held : goal.returns-in_err-take_held
@@ -12,8 +12,9 @@ returns-in_err-take_held c = λ before fed.
     let s = c.args.self.now in
     let stopped = c.in_err-take_held.ensures in
     rw (p.1, p.2)
-    (told_line s.settings s.held.items c.in_err-take_held.field-0.0 s.line (Decides params_texts (before ++ 10 ∷ []))
-    stopped.line stopped.told (line_faulty s before fed 10 refl c.requires.line))
+    (reported_line s.settings s.held.items c.in_err-take_held.field-0.0 s.line
+    (Decides params_texts (before ++ 10 ∷ []))
+    stopped.line stopped.reported (line_faulty s before fed 10 refl c.requires.line))
 
 pub returns : goal.returns
 returns c = λ before fed. (

@@ -1,7 +1,7 @@
 use Rattle.std.proofs.Common.{◌∙◌, ◌∷◌, [], ◌++◌, ap, sym, subst}
 use Rattle.tk_words.specs.Texts.{Decides}
 use Rattle.tk_params.specs.Params.{spells_eof, params_texts}
-use Rattle.tk_params.proofs.Feeds.{eof_ends, missing_at_end, whole_at_end}
+use Rattle.tk_params.proofs.ReaderBytes.{eof_ends, missing_at_end, whole_at_end}
 use Rattle.tk_params.proofs.reader.ParamReader.feed_byte.Goals as goal
 
 pub returns-then-not-names : goal.returns-then-not-names

@@ -1,5 +1,5 @@
 use Rattle.std.proofs.Common.{refl, arith}
-use Rattle.tk_params.proofs.Feeds.{kept_byte, line_over}
+use Rattle.tk_params.proofs.ReaderBytes.{kept_byte, line_over}
 use Rattle.tk_params.proofs.reader.ParamReader.keep.Goals as goal
 
 pub returns-then-self-eq-LINE_LIMIT : goal.returns-then-self-eq-LINE_LIMIT

@@ -1,5 +1,5 @@
 use Rattle.std.proofs.Common.{refl}
-use Rattle.tk_params.proofs.Feeds.{fed_new, fed_waits}
+use Rattle.tk_params.proofs.ReaderBytes.{fed_new, fed_waits}
 use Rattle.tk_params.proofs.reader.ParamReader.new.Goals as goal
 
 pub returns : goal.returns

@@ -1,4 +1,4 @@
-use Rattle.tk_params.proofs.Feeds.{read_taken}
+use Rattle.tk_params.proofs.ReaderBytes.{read_taken}
 use Rattle.tk_params.proofs.reader.ParamReaderTextReader.feed.Goals as goal
 
 pub returns : goal.returns

@@ -2,8 +2,8 @@ use Rattle.std.proofs.Common.{◌∙◌, ap, sym}
 use Rattle.std.proofs.lemmas.Result.{err_from_is_err_and}
 use Rattle.tk_words.specs.Texts.{DecidesEnded}
 use Rattle.tk_params.specs.Params.{spells_eof, params_texts}
-use Rattle.tk_params.proofs.Feeds.{ended_as, ends_eof, ends_faulty, ends_line}
-use Rattle.tk_params.proofs.Told.{told_line}
+use Rattle.tk_params.proofs.ReaderBytes.{ended_as, ends_eof, ends_faulty, ends_line}
+use Rattle.tk_params.proofs.LineFaults.{reported_line}
 use Rattle.tk_params.proofs.reader.ParamReaderTextReader.finish.Goals as goal
 
 pub returns-then-spelled : goal.returns-then-spelled
@@ -19,8 +19,8 @@ returns-in_err-take_held c = λ before waits.
     let s = c.args.self in
     let stopped = c.in_err-take_held.ensures in
     rw (p.1, p.2)
-    (told_line s.settings s.held.items c.in_err-take_held.field-0.0 s.line (DecidesEnded params_texts before)
-    stopped.line stopped.told (ends_faulty s before waits.fed
+    (reported_line s.settings s.held.items c.in_err-take_held.field-0.0 s.line (DecidesEnded params_texts before)
+    stopped.line stopped.reported (ends_faulty s before waits.fed
     (ap spells_eof (sym c.deref.ensures.value) ∙ sym c.spelled.ensures ∙ c.if-spelled.false)))
 
 pub returns : goal.returns

@@ -1,4 +1,4 @@
-use Rattle.tk_params.proofs.Looks.{none_kept}
+use Rattle.tk_params.proofs.SettingLookups.{none_kept}
 use Rattle.tk_params.proofs.settings.Settings.new.Goals as goal
 
 pub invariant_of-result : goal.invariant_of-result

@@ -1,7 +1,7 @@
 use Rattle.std.proofs.Common.{◌∙◌, ap, sym}
 use Rattle.tk_params.specs.Reader.Stored.{settings_in, value_is}
 use Rattle.tk_params.specs.Values.{has_key}
-use Rattle.tk_params.proofs.Looks.{one_more_ignored, one_more_used}
+use Rattle.tk_params.proofs.SettingLookups.{one_more_ignored, one_more_used}
 use Rattle.tk_params.proofs.settings.Settings.set.Goals as goal
 
 pub invariant_of-self-then-not-is_ignored : goal.invariant_of-self-then-not-is_ignored

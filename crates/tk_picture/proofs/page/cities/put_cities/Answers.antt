@@ -11,7 +11,7 @@ use Rattle.tk_picture.proofs.page.cities.put_cities.Goals as goal
 pub loop-city-preserved : goal.loop-city-preserved
 loop-city-preserved g c =
     let p = c.args.picture.now in
-    rw (lines_more (city_line p.view.frame (places_of p.view.places) p.demands.now p.depot) c.loop-city.city
+    rw (lines_more (city_line p.view.extent (places_of p.view.places) p.demands.now p.depot) c.loop-city.city
     c.loop-city.auto.city)
     (Puts-then c.loop-city.invariant c.put_city.ensures)
 
@@ -23,6 +23,6 @@ returns g c =
     Puts-then
     (Puts-then c.put.ensures
     (subst (Puts _ _ _)
-    (ap (λ n. flat_map (city_line p.view.frame (places_of p.view.places) p.demands.now p.depot)
+    (ap (λ n. flat_map (city_line p.view.extent (places_of p.view.places) p.demands.now p.depot)
     (range_with_len 1 n)) all) c.loop-city.invariant))
     c.put-2.ensures

@@ -9,5 +9,5 @@ use Rattle.tk_picture.proofs.page.cities.put_cities.Given as goal
 
 abbrev pub invariant-loop-city : goal.invariant-loop-city
 invariant-loop-city g l = Puts g.W.Sink l.initial.pen l.pen
-    (flat_map (city_line l.picture.view.frame (places_of l.picture.view.places) l.picture.demands.now l.picture.depot)
+    (flat_map (city_line l.picture.view.extent (places_of l.picture.view.places) l.picture.demands.now l.picture.depot)
     (range_with_len 1 (l.city - 1)))

@@ -1,6 +1,6 @@
 use Rattle.std.proofs.Common.{◌-◌}
 use Rattle.tk_writers.proofs.Pieces.Putting.{Puts-then}
-use Rattle.tk_picture.proofs.Words.{got}
+use Rattle.tk_picture.proofs.CityWords.{got}
 use Rattle.tk_picture.proofs.page.cities.put_city.Goals as goal
 
 pub returns : goal.returns

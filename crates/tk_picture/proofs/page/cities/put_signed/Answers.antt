@@ -6,7 +6,7 @@ use mir.Syntax.{w64}
 use mir.Val.{of_z, to_z}
 use Rattle.tk_writers.specs.Pens.{Puts}
 use Rattle.tk_writers.proofs.Pieces.Putting.{Puts-then}
-use Rattle.tk_picture.proofs.Words.{signed_below}
+use Rattle.tk_picture.proofs.CityWords.{signed_below}
 use Rattle.tk_picture.proofs.page.cities.put_signed.Goals as goal
 
 pub returns-then-number-lt0 : goal.returns-then-number-lt0

@@ -1,5 +1,5 @@
 use Rattle.std.proofs.Common.{arith}
-use Rattle.tk_picture.proofs.Legs.{last_leg, no_legs_put, one_more_leg}
+use Rattle.tk_picture.proofs.RouteLegs.{last_leg, no_legs_put, one_more_leg}
 use Rattle.tk_picture.proofs.page.legs.put_legs.Goals as goal
 
 pub loop-customer-init : goal.loop-customer-init

@@ -1,6 +1,6 @@
 -- the legs before this customer are put
 use Rattle.tk_routes.specs.Cvrps.{instance_of}
-use Rattle.tk_picture.proofs.Legs.{AreLegsPut}
+use Rattle.tk_picture.proofs.RouteLegs.{AreLegsPut}
 use Rattle.tk_picture.proofs.page.legs.put_legs.Given as goal
 
 abbrev pub invariant-loop-customer : goal.invariant-loop-customer

@@ -2,8 +2,8 @@ use Rattle.std.proofs.Common.{◌∙◌, sym}
 use Rattle.tk_writers.proofs.Pieces.Putting.{Puts-then}
 use Rattle.tk_routes.specs.Cvrps.{instance_of}
 use Rattle.tk_picture.specs.PageText.{legs_line, route_legs}
-use Rattle.tk_picture.proofs.Paths.{filled_none, filled_some}
-use Rattle.tk_picture.proofs.PutNothing.{Puts-none}
+use Rattle.tk_picture.proofs.RoutePaths.{filled_none, filled_some}
+use Rattle.tk_picture.proofs.EmptyPen.{Puts-none}
 use Rattle.tk_picture.proofs.page.legs.put_route.Goals as goal
 
 pub returns-then-is_empty : goal.returns-then-is_empty

@@ -7,7 +7,7 @@ use Rattle.tk_routes.specs.Cvrps.{instance_of}
 use Rattle.tk_routes.specs.Instance.{node_of}
 use Rattle.tk_picture.specs.Drawings.{route_path}
 use Rattle.tk_picture.specs.PageText.{path_line}
-use Rattle.tk_picture.proofs.Paths.{filled_some}
+use Rattle.tk_picture.proofs.RoutePaths.{filled_some}
 use Rattle.tk_picture.proofs.page.paths.put_route.Goals as goal
 
 pub loop-customer-preserved : goal.loop-customer-preserved

@@ -1,7 +1,7 @@
 use Rattle.std.proofs.Common.{◌∙◌, sym}
 use Rattle.tk_routes.specs.Cvrps.{instance_of}
 use Rattle.tk_picture.specs.PageText.{row_line, route_row}
-use Rattle.tk_picture.proofs.Paths.{filled_some}
+use Rattle.tk_picture.proofs.RoutePaths.{filled_some}
 use Rattle.tk_picture.proofs.page.table.put_filled.Goals as goal
 
 pub returns-then-not-is_empty : goal.returns-then-not-is_empty

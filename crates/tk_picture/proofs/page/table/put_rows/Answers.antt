@@ -1,5 +1,5 @@
 use Rattle.std.proofs.Common.{arith}
-use Rattle.tk_routes.proofs.Served.{AreServedOnce-short}
+use Rattle.tk_routes.proofs.ServedCustomers.{AreServedOnce-short}
 use Rattle.tk_picture.proofs.EachRoute.{put_one_more, served_at}
 use Rattle.tk_picture.proofs.page.table.put_rows.Goals as goal
 

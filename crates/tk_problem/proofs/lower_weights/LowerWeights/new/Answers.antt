@@ -1,5 +1,5 @@
 use Rattle.std.proofs.Common.{◌≡◌, ◌*◌, ◌/◌, replicate, ap, ◌∙◌}
-use Rattle.tk_problem.proofs.Triangle.{pairs}
+use Rattle.tk_problem.proofs.LowerTriangle.{pairs}
 use Rattle.tk_problem.proofs.WeightsSoFar.{so_far_none, indices_within, zeros_small}
 use Rattle.tk_problem.proofs.lower_weights.LowerWeights.new.Goals as goal
 use Rattle.tk_problem.proofs.lower_weights.LowerWeights.new.Goals.{After-new-places}

@@ -1,6 +1,6 @@
 use Rattle.std.proofs.Common.{◌∙◌, ap, map}
-use Rattle.tk_problem.proofs.Placing.{map-replicate}
-use Rattle.tk_problem.proofs.Units.{places_in-near}
+use Rattle.tk_problem.proofs.EqualPoints.{map-replicate}
+use Rattle.tk_problem.proofs.UnitPoints.{places_in-near}
 use Rattle.tk_problem.specs.Units.{place_in}
 use Rattle.tk_problem.specs.declared.unit.Unit.TheVariants.{One}
 use Rattle.tk_problem.proofs.points.Points.at_origin.Goals as goal

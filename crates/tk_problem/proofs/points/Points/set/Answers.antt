@@ -1,6 +1,6 @@
 use Rattle.std.proofs.Common.{ap, arith}
 use Rattle.std.proofs.lemmas.List.{map-set}
-use Rattle.tk_problem.proofs.Units.{places_in-near}
+use Rattle.tk_problem.proofs.UnitPoints.{places_in-near}
 use Rattle.tk_problem.specs.Stored.{stored_places}
 use Rattle.tk_problem.specs.Units.{place_in}
 use Rattle.std.proofs.lemmas.Grind.{common_steps}

@@ -1,7 +1,7 @@
 use Rattle.std.proofs.Common.{subst, sym}
 use Rattle.tk_problem.specs.Laws.Units.{place_in-near}
 use Rattle.tk_problem.specs.Places.{IsNearOrigin}
-use Rattle.tk_problem.proofs.Units.{product-in, product-fits, same_point}
+use Rattle.tk_problem.proofs.UnitPoints.{product-in, product-fits, same_point}
 use Rattle.tk_problem.proofs.unit.Unit.place.Goals as goal
 
 pub returns-clause-place : goal.returns-clause-place

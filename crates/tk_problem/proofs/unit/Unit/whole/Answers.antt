@@ -1,6 +1,6 @@
 use Rattle.std.proofs.Common.{◌∙◌, ap, arith, pos, sym, ◌*ℤ◌}
 use Rattle.std.proofs.lemmas.Int.{ints}
-use Rattle.tk_problem.proofs.Units.{points_differ, points_equal, quotient-in, same_point, whole-quotient}
+use Rattle.tk_problem.proofs.UnitPoints.{points_differ, points_equal, quotient-in, same_point, whole-quotient}
 use Rattle.tk_problem.specs.Units.{step_of}
 use Rattle.tk_problem.proofs.unit.Unit.whole.Goals as goal
 

@@ -3,7 +3,7 @@ use Rattle.std.specs.Prelude.{IfOk}
 use Rattle.tk_words.specs.declared.keyword.Keyword.TheVariants as words
 use Rattle.tk_problem_text.specs.HeaderValues.{problem_type_of, weight_type_of, weight_format_of, header_number}
 use Rattle.tk_lines.specs.Pieces.{has}
-use Rattle.tk_lines.specs.Reader.Forms.{a_header}
+use Rattle.tk_lines.specs.Reader.Handlers.{a_header}
 use Rattle.std.proofs.lemmas.Result.{IfOk-weaker}
 use Rattle.tk_problem.specs.declared.limits.TheConstants.{CAPACITY_LIMIT, CITY_LIMIT}
 use Rattle.tk_problem_text.proofs.KeptHeaders.{says_known, says_number}

@@ -8,7 +8,7 @@ use Rattle.tk_words.specs.Lex.{trim, after_word}
 use Rattle.tk_lines.specs.Pieces.{has, first_at, Fault}
 use Rattle.tk_problem_text.specs.Problem.{problem_header}
 use Rattle.std.proofs.lemmas.Result.{IfOk-weaker, IfErr-weaker}
-use Rattle.tk_lines.proofs.Pieces.ToldFaults.{told_word}
+use Rattle.tk_lines.proofs.Pieces.ReportedFaults.{reported_word}
 use Rattle.tk_problem_text.proofs.KeptHeaders.{short}
 use Rattle.tk_problem_text.proofs.headers.Headers.take_name.Goals as goal
 
@@ -29,5 +29,5 @@ returns-in-Some-clause-err c = λ ps v n h s.
     let is_short = short v c.in-Some.name.now name.0 name.1 in
     let P : TextKind → Type 0 = λ k. (k ≡ kinds.Repeated) × (has words.Name ps ≡ true) in
     let Q : TextKind → Type 0 = λ k. first_at n (problem_header ps words.Name v) ≡ Some (Fault n k) in
-    IfErr-weaker c.keep_name.result _ _ (λ k. told_word P Q k (λ p. rw (is_short, p.1, p.0) refl))
+    IfErr-weaker c.keep_name.result _ _ (λ k. reported_word P Q k (λ p. rw (is_short, p.1, p.0) refl))
     (c.keep_name.ensures.err ps h)

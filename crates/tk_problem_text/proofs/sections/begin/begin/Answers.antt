@@ -2,7 +2,8 @@ use Rattle.std.proofs.Common.{List, sym, ◌∙◌, ap, Some}
 use Rattle.std.proofs.lemmas.Result.{IfOk-weaker, IfErr-weaker}
 use Rattle.tk_lines.specs.Pieces.{Piece}
 use Rattle.tk_problem_text.specs.Reader.Parts.{HasParts}
-use Rattle.tk_problem_text.proofs.SectionTokens.SectionBegins.{MayBegin, size_is, size_within, known, begun, told_word}
+use Rattle.tk_problem_text.proofs.SectionTokens.SectionBegins.{MayBegin, size_is, size_within, known, begun}
+use Rattle.tk_problem_text.proofs.SectionTokens.SectionBegins.{reported_word}
 use Rattle.tk_problem_text.proofs.sections.begin.begin.Goals as goal
 use Rattle.tk_problem_text.proofs.sections.begin.begin.Goals.{In-Some-dimension}
 
@@ -24,5 +25,5 @@ returns-clause-ok c = λ before n has_parts.
 pub returns-clause-err : goal.returns-clause-err
 returns-clause-err c = λ before n has_parts.
     let may = may_begin (goal.at.returns-clause-err c).In-Some-dimension before has_parts in
-    IfErr-weaker c.begin_known.result _ _ (told_word may n)
+    IfErr-weaker c.begin_known.result _ _ (reported_word may n)
     (c.begin_known.ensures.err before n has_parts may.typed (size_is may))

@@ -7,7 +7,7 @@ pub returns-clause-swept : goal.returns-clause-swept
 returns-clause-swept g c = λ e.
     elim c.if-terms.branch [
       | then-terms w ↦ rw (w.report-is, w.ring-is, w.waking-is)
-          (fresh_swept _ _ _ _ _ _ c.with_steps-gains.ensures.table c.with_steps-gains.ensures.count _
+          (fresh_swept _ _ _ _ _ _ c.with_cache-gains.ensures.table c.with_cache-gains.ensures.count _
           w.descend_swept_under-report.ensures.sweeping)
       | else-terms w ↦ absurd (cc)
     ]
@@ -17,7 +17,7 @@ returns-clause-once g c = λ e.
     elim c.if-terms.branch [
       | then-terms w ↦ absurd (cc)
       | else-terms w ↦ rw (w.report-is, w.ring-is, w.waking-is) (
-        fresh_once _ _ _ _ _ _ c.with_steps-gains.ensures.table c.with_steps-gains.ensures.count _
+        fresh_once _ _ _ _ _ _ c.with_cache-gains.ensures.table c.with_cache-gains.ensures.count _
             w.descend_under.ensures.descent,
         refl,
       )

@@ -1,6 +1,6 @@
 use Rattle.std.proofs.Common.{arith}
 use Rattle.std.proofs.lemmas.Int.{ints, to_z-of_z}
-use Rattle.tk_ring_search.proofs.Settling.{slack_most}
+use Rattle.tk_ring_search.proofs.TrialResults.{slack_most}
 use Rattle.tk_ring_search.proofs.trials.judging.slack.Goals as goal
 use mir.Syntax.{w64}
 

@@ -1,4 +1,4 @@
-use Rattle.tk_ring_search.proofs.Runs.{counted_run}
+use Rattle.tk_ring_search.proofs.TrialRuns.{counted_run}
 use Rattle.tk_ring_search.proofs.trials.laws.each_trial_counts.Goals as goal
 
 pub returns : goal.returns

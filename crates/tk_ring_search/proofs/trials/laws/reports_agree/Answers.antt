@@ -1,4 +1,4 @@
-use Rattle.tk_ring_search.proofs.Runs.{agree}
+use Rattle.tk_ring_search.proofs.TrialRuns.{agree}
 use Rattle.tk_ring_search.proofs.trials.laws.reports_agree.Goals as goal
 
 pub returns : goal.returns

@@ -1,4 +1,4 @@
-use Rattle.tk_ring_search.proofs.Runs.{rings_run}
+use Rattle.tk_ring_search.proofs.TrialRuns.{rings_run}
 use Rattle.tk_ring_search.proofs.trials.laws.rings_fit.Goals as goal
 
 pub returns : goal.returns

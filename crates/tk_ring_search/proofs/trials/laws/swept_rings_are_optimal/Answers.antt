@@ -1,4 +1,4 @@
-use Rattle.tk_ring_search.proofs.Runs.{optimal_run}
+use Rattle.tk_ring_search.proofs.TrialRuns.{optimal_run}
 use Rattle.tk_ring_search.proofs.trials.laws.swept_rings_are_optimal.Goals as goal
 
 pub returns : goal.returns

@@ -1,7 +1,7 @@
 use Rattle.std.proofs.Common.{sym, ◌∙◌, subst}
 use Rattle.tk_descent.proofs.MovesOnTours.Rounds.{round_of}
 use Rattle.tk_rings.specs.Loads.{HasLoads}
-use Rattle.tk_rings.proofs.Allowing.{straight_paths, turned_paths}
+use Rattle.tk_rings.proofs.AllowedOffers.{straight_paths, turned_paths}
 use Rattle.tk_rings.proofs.capacity.Capacity.allows_forward.Goals as goal
 
 pub returns-then-next-w : goal.returns-then-next-w

@@ -1,8 +1,8 @@
 use Rattle.std.proofs.Common.{arith, ap, ◌∙◌}
 use Rattle.std.proofs.lemmas.Bool.{lt-leb}
 use Rattle.tk_rings.specs.Rings.{is_closed, join, turned}
-use Rattle.tk_rings.proofs.Meetings.{whole_between, whole_over, parted_meet, all_fit}
-use Rattle.tk_rings.proofs.Walks.{loads_back, view_loads}
+use Rattle.tk_rings.proofs.MeetingRoutes.{whole_between, whole_over, parted_meet, all_fit}
+use Rattle.tk_rings.proofs.DepotWalks.{loads_back, view_loads}
 use Rattle.tk_rings.proofs.capacity.Capacity.allows_segment.Goals as goal
 
 pub returns-then-load-limit : goal.returns-then-load-limit

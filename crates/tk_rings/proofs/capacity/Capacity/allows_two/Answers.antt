@@ -1,9 +1,9 @@
 use Rattle.std.proofs.Common.{sym, ◌∙◌, ap, eqb}
 use Rattle.tk_descent.proofs.MovesOnTours.Rounds.{round_of}
 use Rattle.tk_rings.specs.Rings.{turned}
-use Rattle.tk_rings.proofs.Allowing.{two_paths}
-use Rattle.tk_rings.proofs.Meetings.{first_of, second_of, two_meet}
-use Rattle.tk_rings.proofs.Walks.{loads_back, view_loads}
+use Rattle.tk_rings.proofs.AllowedOffers.{two_paths}
+use Rattle.tk_rings.proofs.MeetingRoutes.{first_of, second_of, two_meet}
+use Rattle.tk_rings.proofs.DepotWalks.{loads_back, view_loads}
 use Rattle.tk_rings.proofs.capacity.Capacity.allows_two.Goals as goal
 
 pub returns-then-fits_between : goal.returns-then-fits_between

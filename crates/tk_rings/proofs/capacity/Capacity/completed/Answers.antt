@@ -1,7 +1,7 @@
 use Rattle.std.proofs.Common.{arith}
 use Rattle.std.proofs.lemmas.Bool.{both_ways}
 use Rattle.tk_rings.specs.Rings.{turned}
-use Rattle.tk_rings.proofs.Walks.{loads_back, stretch_is, view_loads}
+use Rattle.tk_rings.proofs.DepotWalks.{loads_back, stretch_is, view_loads}
 use Rattle.tk_rings.proofs.capacity.Capacity.completed.Goals as goal
 
 pub returns-clause-value : goal.returns-clause-value

@@ -1,6 +1,6 @@
 use Rattle.std.proofs.Common.{◌+◌, arith, sym}
 use Rattle.std.proofs.lemmas.Bool.{lt-leb}
-use Rattle.tk_rings.proofs.Meetings.{sum_fits}
+use Rattle.tk_rings.proofs.MeetingRoutes.{sum_fits}
 use Rattle.tk_rings.proofs.capacity.Capacity.fits_between.Goals as goal
 
 pub returns-then-first-room : goal.returns-then-first-room

@@ -1,6 +1,6 @@
 use Rattle.std.proofs.Common.{arith, sym, ◌∙◌, ◌+◌, subst}
 use Rattle.tk_descent.proofs.MovesOnTours.Rounds.{round_of}
-use Rattle.tk_rings.proofs.Walks.{begins_walk, copy_ahead, last_ahead, over_ahead, goes_on, not_all, Walked}
+use Rattle.tk_rings.proofs.DepotWalks.{begins_walk, copy_ahead, last_ahead, over_ahead, goes_on, not_all, Walked}
 use Rattle.tk_rings.proofs.capacity.Capacity.load_ahead.Goals as goal
 
 pub loop-k-init : goal.loop-k-init

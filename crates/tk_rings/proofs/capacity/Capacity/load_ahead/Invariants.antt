@@ -2,7 +2,7 @@ use Rattle.std.proofs.Common.{◌≤◌, ◌*◌, ◌^◌, length}
 use Rattle.tk_distance.specs.Cities.{IsCity}
 use Rattle.tk_rings.specs.Loads.{HasLoads}
 use Rattle.tk_rings.specs.declared.stretch.Stretch.{Stretch}
-use Rattle.tk_rings.proofs.Walks.{Walked}
+use Rattle.tk_rings.proofs.DepotWalks.{Walked}
 use Rattle.tk_rings.proofs.capacity.Capacity.load_ahead.Given as goal
 
 abbrev pub invariant-loop-k : goal.invariant-loop-k

@@ -2,7 +2,7 @@ use Rattle.std.proofs.Common.{arith, refl}
 use Rattle.tk_descent.proofs.MovesOnTours.Rounds.{round_of}
 use Rattle.tk_rings.specs.Capacities.{loads_of}
 use Rattle.tk_rings.specs.Loads.{HasLoads}
-use Rattle.tk_rings.proofs.Allowing.{path_fits}
+use Rattle.tk_rings.proofs.AllowedOffers.{path_fits}
 use Rattle.tk_rings.proofs.capacity.Capacity.stretch.Goals as goal
 
 pub returns-clause-loads : goal.returns-clause-loads

@@ -3,7 +3,7 @@ use Rattle.tk_descent.specs.Machine.{IsOfferOn}
 use Rattle.tk_descent.proofs.MovesOnTours.Rounds.{round_of}
 use Rattle.tk_descent.proofs.OfferLists.Made.{forward_back}
 use Rattle.tk_rings.specs.Capacities.{is_allowed}
-use Rattle.tk_rings.proofs.Allowing.{mirrored_allowed, mirrored_on}
+use Rattle.tk_rings.proofs.AllowedOffers.{mirrored_allowed, mirrored_on}
 use Rattle.tk_rings.proofs.capacity.CapacityRule.allows.Goals as goal
 
 pub allows_forward-requires-else-next-x-clause-on_tour : goal.allows_forward-requires-else-next-x-clause-on_tour

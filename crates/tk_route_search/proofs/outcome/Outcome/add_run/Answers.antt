@@ -5,7 +5,7 @@ use Rattle.tk_route_search.specs.declared.outcome.RouteRun.{RouteRun}
 use Rattle.tk_route_search.specs.Events.{Ended}
 use Rattle.tk_route_search.specs.Tasks.{RouteTask, task_of}
 use Rattle.tk_route_search.specs.Watching.{WereShown, next}
-use Rattle.tk_route_search.proofs.Kept.{run_added}
+use Rattle.tk_route_search.proofs.RunsSoFar.{run_added}
 use Rattle.tk_route_search.proofs.outcome.Outcome.add_run.Goals as goal
 
 pub returns : goal.returns

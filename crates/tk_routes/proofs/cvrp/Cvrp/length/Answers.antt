@@ -9,7 +9,7 @@ use Rattle.tk_routes.specs.Cvrps.{instance_of}
 use Rattle.tk_routes.specs.Instance.{node_of}
 use Rattle.tk_routes.specs.Routes.{route_length}
 use Rattle.tk_routes.specs.declared.cvrp.Cvrp.{Cvrp}
-use Rattle.tk_routes.proofs.Costs.{route_length-limit}
+use Rattle.tk_routes.proofs.RouteCosts.{route_length-limit}
 use Rattle.tk_routes.proofs.RouteSteps.{way_back-customer}
 use Rattle.tk_routes.proofs.cvrp.Cvrp.length.Goals as goal
 

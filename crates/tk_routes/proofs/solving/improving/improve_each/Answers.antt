@@ -8,7 +8,7 @@ use Rattle.tk_lists.specs.Solution.{lists_of}
 use Rattle.tk_routes.specs.Cvrps.{instance_of}
 use Rattle.tk_routes.specs.Instance.{Instance}
 use Rattle.tk_routes.specs.Routes.{route_length, routes_cost}
-use Rattle.tk_routes.proofs.Costs.{route_length-limit}
+use Rattle.tk_routes.proofs.RouteCosts.{route_length-limit}
 use Rattle.tk_routes.proofs.Improving.Exchanged.{AreServedOnce-routes}
 use Rattle.tk_routes.proofs.Improving.ImprovedSteps.{IsImprovedTo, IsImprovedTo-none, IsImprovedTo-more, next_known}
 use Rattle.tk_routes.proofs.Improving.ImprovedSteps.{small_counts, cost_step, improved_all, improved_part}

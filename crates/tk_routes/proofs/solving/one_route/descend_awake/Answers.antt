@@ -3,7 +3,7 @@ use Rattle.tk_near.specs.Near.{near_of}
 use Rattle.tk_tour.specs.Tour.{IsTour}
 use Rattle.tk_tour.specs.ArrayTours.{order_of}
 use Rattle.tk_descent.specs.Awake.{one_to}
-use Rattle.tk_descent.proofs.WakeRuns.Woken.{one_to-length}
+use Rattle.tk_descent.proofs.WakeExecutions.WokenQueue.{one_to-length}
 use Rattle.tk_routes.proofs.Improving.DescendedRoutes.{IsFlipped-counted, Pass-from, few_moves}
 use Rattle.tk_routes.proofs.Improving.Renumbered.{All-one_to}
 use Rattle.tk_routes.proofs.solving.one_route.descend_awake.Given.{Over}

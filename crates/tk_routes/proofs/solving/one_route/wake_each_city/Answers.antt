@@ -1,4 +1,4 @@
-use Rattle.tk_descent.proofs.WakeRuns.Passes.{all_awake}
+use Rattle.tk_descent.proofs.WakeExecutions.Passes.{all_awake}
 use Rattle.tk_routes.proofs.solving.one_route.wake_each_city.Goals as goal
 
 pub returns-clause-queue : goal.returns-clause-queue

@@ -1,4 +1,4 @@
-use Rattle.tk_tour.proofs.Bridge.{after1, after2, after3, after4, can1, can2, can3, can4}
+use Rattle.tk_tour.proofs.DoubleBridgeFlips.{after1, after2, after3, after4, can1, can2, can3, can4}
 use Rattle.tk_search.proofs.DoubleBridge.Kicks.{bridged_at_ends, cut_at_ends}
 use Rattle.tk_search.proofs.DoubleBridge.KickSwaps.{first_side, second_side, third_side, fourth_side, four_turns}
 use Rattle.tk_search.proofs.DoubleBridge.KickSwaps.{kick_few}

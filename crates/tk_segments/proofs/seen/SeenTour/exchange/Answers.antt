@@ -1,6 +1,6 @@
 use Rattle.std.proofs.Common.{◌≡◌, ◌∙◌, ℕ, List, length, sym, ap, subst, arith}
 use Rattle.tk_tour.specs.Reversal.{IsInverse, begun_at, reversed_places}
-use Rattle.tk_segments.specs.Runs.{shown}
+use Rattle.tk_segments.specs.Segments.{shown}
 use Rattle.tk_tour.specs.Tour.{IsSizedTour}
 use Rattle.std.proofs.Common.{◌++◌, take, drop}
 use Rattle.std.proofs.lemmas.Grind.{common_steps}
@@ -16,7 +16,7 @@ written c = grind (arith, common_steps)
 
 -- the sequence is reversed at these positions
 reversed : (c : After-exchange_seen) →
-    shown c.exchange_seen.new.order c.args.self.now.runs.runs.items
+    shown c.exchange_seen.new.order c.args.self.now.segments.segments.items
     ≡ reversed_places c.args.first c.args.count (seen_of c.args.self.now)
 reversed c =
     let s = c.args.self.now in
@@ -39,7 +39,7 @@ pub invariant_of-self-2-clause-tour : goal.invariant_of-self-2-clause-tour
 invariant_of-self-2-clause-tour c =
     let s = c.args.self.now in
     let before = (goal.at.invariant_of-self-2-clause-tour c).After-exchange_seen in
-    let P : List ℕ → Type 0 = λ u. IsSizedTour (begun_at s.begin (shown u s.runs.runs.items)) in
+    let P : List ℕ → Type 0 = λ u. IsSizedTour (begun_at s.begin (shown u s.segments.segments.items)) in
     subst P (sym (written before)) (reversed_tour s s.begin c.args.first c.args.count _ (reversed before))
 
 pub returns-clause-list : goal.returns-clause-list
@@ -47,7 +47,7 @@ returns-clause-list c = λ k lk h.
     let s = c.args.self.now in
     let f = facts s in
     let before = (goal.at.returns-clause-list c).After-exchange_seen in
-    ap (λ u. begun_at s.begin (shown u s.runs.runs.items)) (written before) ∙
+    ap (λ u. begun_at s.begin (shown u s.segments.segments.items)) (written before) ∙
     reversed_list s k c.args.first c.args.count _ (reversed before) lk
     (omega (arith, f.list, c.requires.first)) (omega (arith, f.list, c.requires.count)) h
 

@@ -1,7 +1,7 @@
 use Rattle.std.proofs.Common.{◌≡◌, ◌<◌, ◌≤◌, ◌+◌, ◌-◌, ◌∙◌, ◌⊎◌, inl, inr, ap, sym, subst, arith}
 use Rattle.tk_tour.specs.Reversal.{begun_at}
 use Rattle.tk_tour.specs.Tour.{IsSizedTour}
-use Rattle.tk_segments.specs.Runs.{shown}
+use Rattle.tk_segments.specs.Segments.{shown}
 use Rattle.tk_segments.specs.SeenTours.{list_of}
 use Rattle.tk_segments.proofs.SeenTours.Facts.{facts, begun_list}
 use Rattle.tk_segments.proofs.seen.SeenTour.join.Goals as goal
@@ -9,15 +9,15 @@ use Rattle.tk_segments.proofs.seen.SeenTour.join.Goals.{Joined-first-self, then-
 
 -- the list has not changed
 as_before : (c : Joined-first-self) →
-    (begun_at c.if-first-self.self (shown c.args.self.now.order.items c.join-first.new.self.runs.items)
+    (begun_at c.if-first-self.self (shown c.args.self.now.order.items c.join-first.new.self.segments.items)
     ≡ list_of c.args.self.now)
-    × (c.if-first-self.self < c.args.self.now.runs.size)
+    × (c.if-first-self.self < c.args.self.now.segments.size)
 as_before c =
     let s = c.args.self.now in
     let k = c.join-first in
     let b = c.if-first-self.self in
     let begin : ((k.result ≤ s.begin) × (b ≡ s.begin - k.result))
-    ⊎ ((s.begin < k.result) × (b ≡ s.begin + s.runs.size - k.result)) =
+    ⊎ ((s.begin < k.result) × (b ≡ s.begin + s.segments.size - k.result)) =
     elim c.if-first-self.branch [
       | then-first-self w ↦ inl (w.if-first-self.true, w.self-is)
       | else-first-self w ↦ inr

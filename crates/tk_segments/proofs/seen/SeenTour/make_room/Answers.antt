@@ -1,5 +1,5 @@
 use Rattle.std.proofs.Common.{◌≡◌, ◌≤◌, ◌+◌, ℕ, length, refl, sym, ap, subst, arith}
-use Rattle.tk_segments.specs.SeenTours.{list_of, room_of, run_count_of}
+use Rattle.tk_segments.specs.SeenTours.{list_of, room_of, segment_count_of}
 use Rattle.tk_segments.specs.Writes.{ArePaid}
 use Rattle.tk_segments.specs.WriteLaws.{changed-refl, changed-le}
 use Rattle.tk_segments.proofs.SeenTours.Facts.{facts, size_again}
@@ -26,12 +26,12 @@ returns-clause-paid c = λ writes swaps h.
     let n = length (list_of s) in
     let same : n ≡ c.len-2.result =
     omega (arith, ap length c.rewrite.ensures.list, g.list, g.order, t.order.ok, c.len-2.ensures) in
-    let full : room_of s + 1 ≤ run_count_of s = omega (arith, c.if-len-self.false, c.len.ensures, s.some) in
+    let full : room_of s + 1 ≤ segment_count_of s = omega (arith, c.if-len-self.false, c.len.ensures, s.some) in
     let P : ℕ → Type 0 = λ u. ArePaid n (room_of s) (writes + c.len-2.result) u swaps in
-    subst P (sym c.rewrite.ensures.runs)
+    subst P (sym c.rewrite.ensures.segments)
     (paid_alike n n (room_of s) (room_of s) (writes + n) (writes + c.len-2.result) 1 swaps swaps refl refl
     (omega (arith, same)) refl
-    (paid_rewrite n (room_of s) writes (run_count_of s) swaps h full))
+    (paid_rewrite n (room_of s) writes (segment_count_of s) swaps h full))
 
 pub returns-clause-small : goal.returns-clause-small
 returns-clause-small c =

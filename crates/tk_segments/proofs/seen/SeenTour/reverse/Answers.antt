@@ -1,6 +1,6 @@
 use Rattle.std.proofs.Common.{◌≤◌, ◌+◌, ◌*◌, ◌/◌, ◌∙◌, ℕ, List, length, refl, sym, ap, subst, arith}
 use Rattle.tk_tour.specs.Reversal.{reversed_places}
-use Rattle.tk_segments.specs.SeenTours.{array_of, list_of, room_of, run_count_of}
+use Rattle.tk_segments.specs.SeenTours.{array_of, list_of, room_of, segment_count_of}
 use Rattle.tk_segments.specs.Writes.{ArePaid, changed}
 use Rattle.tk_tour.proofs.StoredTours.Places.{length-reversed_places}
 use Rattle.tk_segments.proofs.SeenTours.Facts.{facts, size_again, seen_in}
@@ -19,16 +19,16 @@ returns-then-count-self c =
     let k = c.exchange in
     let n = length (list_of s) in
     let m = c.args.count / 2 in
-    let P : ℕ → Type 0 = λ u. (writes swaps : ℕ) → ArePaid n (room_of s) writes (run_count_of s) swaps →
+    let P : ℕ → Type 0 = λ u. (writes swaps : ℕ) → ArePaid n (room_of s) writes (segment_count_of s) swaps →
     ArePaid n (room_of s) (writes + k.result) u (swaps + m) in
     let list = k.ensures.list c.args.first c.requires.first c.seen_from-v.ensures in
     record {
       list = list;
       exact = k.ensures.count ∙ sym (reversal_cost-short s c.args.count c.if-count-self.true);
-      paid = subst P (sym k.ensures.runs)
+      paid = subst P (sym k.ensures.segments)
           (λ writes swaps h. paid_alike n n (room_of s) (room_of s) (writes + 2 * m) (writes + k.result)
-          (run_count_of s) (swaps + m) (swaps + m) refl refl (omega (arith, k.ensures.count)) refl
-          (paid_exchange n (room_of s) writes (run_count_of s) swaps m h));
+          (segment_count_of s) (swaps + m) (swaps + m) refl refl (omega (arith, k.ensures.count)) refl
+          (paid_exchange n (room_of s) writes (segment_count_of s) swaps m h));
       room = k.ensures.room;
       small = omega (arith, k.ensures.count, c.requires.count);
       written = k.ensures.written;
@@ -59,9 +59,9 @@ returns c =
           ∙ ap (reversed_places c.args.first c.args.count) m.ensures.list;
       exact = m.ensures.exact ∙ sym (reversal_cost-long s c.args.count c.if-count-self.false);
       paid = λ writes swaps h.
-          paid_turn (length (list_of s)) (room_of s) (writes + m.result) (run_count_of m.new.self) swaps
-          (run_count_of t.new.self)
-          (c.args.count / 2) least (m.ensures.paid writes swaps h) t.ensures.some t.ensures.runs
+          paid_turn (length (list_of s)) (room_of s) (writes + m.result) (segment_count_of m.new.self) swaps
+          (segment_count_of t.new.self)
+          (c.args.count / 2) least (m.ensures.paid writes swaps h) t.ensures.some t.ensures.segments
           (subst P (sym (facts s).list) s.enough) (omega (arith, c.if-count-self.false));
       room = t.ensures.room ∙ m.ensures.room;
       small = m.ensures.small;

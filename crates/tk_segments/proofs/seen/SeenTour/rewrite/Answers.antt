@@ -1,6 +1,6 @@
 use Rattle.std.proofs.Common.{◌≡◌, ◌∙◌, ℕ, List, length, sym, ap, subst, arith}
 use Rattle.tk_tour.specs.Reversal.{begun_at}
-use Rattle.tk_segments.specs.Runs.{shown}
+use Rattle.tk_segments.specs.Segments.{shown}
 use Rattle.tk_tour.specs.Tour.{IsTour, IsSizedTour}
 use Rattle.std.proofs.Common.{◌++◌, take, drop}
 use Rattle.std.proofs.lemmas.Grind.{common_steps}

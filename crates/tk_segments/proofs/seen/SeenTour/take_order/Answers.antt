@@ -24,7 +24,7 @@ invariant_of-self-clause-tour c =
     let cities = c.args.cities.now in
     let order = c.copy_from_slice.new.self.items in
     let taken : order ≡ cities = c.copy_from_slice.ensures.items in
-    let size : length order ≡ s.runs.size = ap length taken ∙ c.requires.size ∙ f.list in
+    let size : length order ≡ s.segments.size = ap length taken ∙ c.requires.size ∙ f.list in
     subst IsSizedTour (sym (append-nil _ ∙ c.reset.ensures.shown order size ∙ taken)) c.requires.tour
 
 pub invariant_of-self-clause-inverse : goal.invariant_of-self-clause-inverse
@@ -41,6 +41,6 @@ pub invariant_of-self-clause-sizes : goal.invariant_of-self-clause-sizes
 invariant_of-self-clause-sizes c =
     let s = c.args.self.now in
     let f = facts s in
-    let size : length c.copy_from_slice.new.self.items ≡ s.runs.size = ap length c.copy_from_slice.ensures.items
+    let size : length c.copy_from_slice.new.self.items ≡ s.segments.size = ap length c.copy_from_slice.ensures.items
     ∙ c.requires.size ∙ f.list in
     (size ∙ sym c.reset.ensures.limits.0, s.sizes.1 ∙ sym c.reset.ensures.limits.0)

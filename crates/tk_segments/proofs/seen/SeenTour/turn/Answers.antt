@@ -2,7 +2,7 @@ use Rattle.std.proofs.Common.{◌≡◌, ◌<◌, ◌≤◌, ◌+◌, ◌-◌, �
 use Rattle.tk_tour.specs.Reversal.{begun_at, reversed_places}
 use Rattle.tk_segments.proofs.SeenTours.Facts.{facts, seen_of, reversed_tour, reversed_round_tour, reversed_list}
 use Rattle.tk_segments.proofs.SeenTours.Facts.{reversed_round_list}
-use Rattle.tk_segments.proofs.SeenTours.Joined.{some_runs}
+use Rattle.tk_segments.proofs.SeenTours.Joined.{some_segments}
 use Rattle.tk_segments.proofs.seen.SeenTour.turn.Goals as goal
 use Rattle.tk_segments.proofs.seen.SeenTour.turn.Goals.{then-before-self, else-before-self}
 
@@ -27,8 +27,12 @@ returns-then-count-n-clause-list c = λ k lk h.
 
 pub returns-then-count-n-clause-some : goal.returns-then-count-n-clause-some
 returns-then-count-n-clause-some c =
-    let runs = c.turn.new.self in
-    omega (arith, some_runs runs.size runs.runs.items runs.laid runs.limits.0, runs.runs.ok.0)
+    let segments = c.turn.new.self in
+    omega (
+      arith,
+      some_segments segments.size segments.segments.items segments.laid segments.limits.0,
+      segments.segments.ok.0,
+    )
 
 pub overflow_sub-first : goal.overflow_sub-first
 overflow_sub-first c = omega (arith, (facts c.args.self.now).list, c.requires.first, c.requires.count)
@@ -43,8 +47,8 @@ pub invariant_of-self-2-clause-tour : goal.invariant_of-self-2-clause-tour
 invariant_of-self-2-clause-tour c =
     let s = c.args.self.now in
     let f = facts s in
-    let before = c.args.first + c.args.count - s.runs.size in
-    reversed_round_tour s _ before (c.args.first - before) (s.runs.size - (c.args.first - before))
+    let before = c.args.first + c.args.count - s.segments.size in
+    reversed_round_tour s _ before (c.args.first - before) (s.segments.size - (c.args.first - before))
     _ (c.begin_and_turn.ensures.shown s.order.items (omega (arith, f.order)))
 
 pub invariant_of-self-2-clause-begins : goal.invariant_of-self-2-clause-begins
@@ -52,7 +56,7 @@ invariant_of-self-2-clause-begins c =
     let s = c.args.self.now in
     let r = c.requires in
     let size = c.begin_and_turn.ensures.limits.0 in
-    let lt : c.args.first + c.args.count - s.runs.size < s.runs.size =
+    let lt : c.args.first + c.args.count - s.segments.size < s.segments.size =
     omega (arith, (facts s).list, r.first, r.count) in
     elim c.if-before-self.branch [
       | then-before-self w ↦ omega (arith, w.self-is, w.if-before-self.true, s.begins, size)
@@ -61,31 +65,35 @@ invariant_of-self-2-clause-begins c =
 
 pub returns-clause-some : goal.returns-clause-some
 returns-clause-some c =
-    let runs = c.begin_and_turn.new.self in
-    omega (arith, some_runs runs.size runs.runs.items runs.laid runs.limits.0, runs.runs.ok.0)
+    let segments = c.begin_and_turn.new.self in
+    omega (
+      arith,
+      some_segments segments.size segments.segments.items segments.laid segments.limits.0,
+      segments.segments.ok.0,
+    )
 
 pub returns-clause-list : goal.returns-clause-list
 returns-clause-list c = λ k lk h.
     let s = c.args.self.now in
     let f = facts s in
     let r = c.requires in
-    let before = c.args.first + c.args.count - s.runs.size in
+    let before = c.args.first + c.args.count - s.segments.size in
     let b = c.if-before-self.self in
     let low : before ≤ c.args.first = omega (arith, f.list, r.first, r.count) in
-    let lt : before < s.runs.size = omega (arith, f.list, r.first, r.count) in
-    let e : s.runs.size - (c.args.first - before) ≡ c.args.count =
+    let lt : before < s.segments.size = omega (arith, f.list, r.first, r.count) in
+    let e : s.segments.size - (c.args.first - before) ≡ c.args.count =
     omega (arith, c.if-count-n.false, f.list, r.first, r.count) in
     let begin : ((before ≤ s.begin) × (b ≡ s.begin - before))
-    ⊎ ((s.begin < before) × (b ≡ s.begin + s.runs.size - before)) =
+    ⊎ ((s.begin < before) × (b ≡ s.begin + s.segments.size - before)) =
     elim c.if-before-self.branch [
       | then-before-self w ↦ inl (w.if-before-self.true, w.self-is)
       | else-before-self w ↦
           inr (w.if-before-self.false, w.self-is)
     ] in
-    let lb : b < s.runs.size =
+    let lb : b < s.segments.size =
     ⊎_elim
     (λ (a : (before ≤ s.begin) × (b ≡ s.begin - before)). omega (arith, a, s.begins))
-    (λ (a : (s.begin < before) × (b ≡ s.begin + s.runs.size - before)). omega (arith, a, lt))
+    (λ (a : (s.begin < before) × (b ≡ s.begin + s.segments.size - before)). omega (arith, a, lt))
     begin in
     reversed_round_list s b k c.args.first c.args.count before _
     (c.begin_and_turn.ensures.shown s.order.items (omega (arith, f.order))

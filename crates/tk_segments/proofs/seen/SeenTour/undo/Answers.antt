@@ -1,5 +1,5 @@
 use Rattle.std.proofs.Common.{◌+◌, ◌≤◌, ◌/◌, ◌∙◌, List, ℕ, length, ap, sym, subst, arith}
-use Rattle.tk_segments.specs.SeenTours.{array_of, list_of, room_of, run_count_of}
+use Rattle.tk_segments.specs.SeenTours.{array_of, list_of, room_of, segment_count_of}
 use Rattle.tk_segments.specs.Writes.{changed}
 use Rattle.tk_segments.proofs.SeenTours.Writes.{paid_fewer}
 use Rattle.tk_segments.proofs.seen.SeenTour.undo.Goals as goal
@@ -16,9 +16,9 @@ returns c =
       list = t.ensures.list ∙ j.ensures.list ∙ r.ensures.list;
       exact = r.ensures.exact;
       paid = λ writes swaps h.
-          paid_fewer (length (list_of s)) (room_of s) (writes + r.result) (run_count_of r.new.self)
-          (swaps + c.args.count / 2) (run_count_of t.new.self) (r.ensures.paid writes swaps h)
-          t.ensures.runs.0 (omega (arith, t.ensures.runs, j.ensures.runs));
+          paid_fewer (length (list_of s)) (room_of s) (writes + r.result) (segment_count_of r.new.self)
+          (swaps + c.args.count / 2) (segment_count_of t.new.self) (r.ensures.paid writes swaps h)
+          t.ensures.segments.0 (omega (arith, t.ensures.segments, j.ensures.segments));
       room = t.ensures.room ∙ j.ensures.room ∙ r.ensures.room;
       small = r.ensures.small;
       written = subst P (sym array) r.ensures.written;

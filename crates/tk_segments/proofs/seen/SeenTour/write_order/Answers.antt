@@ -1,6 +1,6 @@
 use Rattle.std.proofs.Common.{◌∙◌, ap, arith}
 use Rattle.tk_tour.specs.Reversal.{begun_at}
-use Rattle.tk_segments.specs.Runs.{shown}
+use Rattle.tk_segments.specs.Segments.{shown}
 use Rattle.tk_segments.proofs.SeenTours.Facts.{facts}
 use Rattle.tk_segments.proofs.seen.SeenTour.write_order.Goals as goal
 

@@ -4,7 +4,7 @@ use Rattle.tk_tour.specs.ArrayTours.{order_of}
 use Rattle.tk_solve.specs.Outcomes.{IsRunAdded}
 use Rattle.tk_solve.specs.Starts.{TourTask, IsStart, task_of}
 use Rattle.tk_solve.specs.Watching.{WereShown}
-use Rattle.tk_solve.proofs.Tables.{euclid_task}
+use Rattle.tk_solve.proofs.EuclidTables.{euclid_task}
 use Rattle.tk_solve.proofs.outcome.Outcome.add_run.Goals as goal
 
 pub add_run_over-requires : goal.add_run_over-requires

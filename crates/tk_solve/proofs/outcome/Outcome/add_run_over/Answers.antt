@@ -7,7 +7,7 @@ use Rattle.tk_solve.specs.Watching.{WereShown, next}
 use Rattle.tk_solve.specs.Events.{Ended}
 use Rattle.tk_solve.specs.Outcomes.{IsTaken}
 use Rattle.tk_solve.specs.declared.outcome.RunReport.{RunReport}
-use Rattle.tk_solve.proofs.SoFar.{ended_tour, run_added}
+use Rattle.tk_solve.proofs.RunsSoFar.{ended_tour, run_added}
 use Rattle.tk_solve.proofs.outcome.Outcome.add_run_over.Goals as goal
 
 pub take-requires : goal.take-requires

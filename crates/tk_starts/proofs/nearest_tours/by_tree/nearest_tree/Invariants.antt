@@ -1,5 +1,5 @@
 use Rattle.std.proofs.Common.{◌-◌, length}
-use Rattle.tk_near.specs.Left.{ArePlacedApart}
+use Rattle.tk_near.specs.Unvisited.{ArePlacedApart}
 use Rattle.tk_starts.proofs.NearestCities.NearestPaths.{IsUnderWay}
 use Rattle.tk_starts.proofs.nearest_tours.by_tree.nearest_tree.Given as goal
 

@@ -1,4 +1,4 @@
-use Rattle.tk_near.proofs.InPlane.LeftLaws.{AreApart-taken, gone}
+use Rattle.tk_near.proofs.InPlane.UnvisitedLaws.{AreApart-taken, gone}
 use Rattle.tk_starts.proofs.NearestCities.NearestPaths.{first_of_left}
 use Rattle.tk_starts.proofs.nearest_tours.by_tree.visit.Goals as goal
 

@@ -1,5 +1,5 @@
 use Rattle.tk_problem.specs.declared.points.Places.TheVariants.{Whole}
-use Rattle.tk_near.proofs.Euclids.{euclid_table}
+use Rattle.tk_near.proofs.EuclidTables.{euclid_table}
 use Rattle.tk_starts.proofs.nearest_tours.of_table.nearest_tour.Goals as goal
 
 pub returns-in-Some-clause-nearest : goal.returns-in-Some-clause-nearest

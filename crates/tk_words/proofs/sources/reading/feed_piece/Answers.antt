@@ -1,7 +1,7 @@
 use Rattle.std.proofs.lemmas.Grind.{common_steps}
 use Rattle.std.proofs.Common.{◌≡◌, ◌+◌, ◌≤◌, ◌++◌, Bool, true, false, length, take, arith, subst, Result, Ok, Err}
 use Rattle.std.proofs.lemmas.Result.{err_from_is_err_and}
-use Rattle.tk_words.proofs.Driving.{part_size, taken_on, decided_within, told_within, too_long_at}
+use Rattle.tk_words.proofs.DecidedTexts.{part_size, taken_on, decided_within, reported_within, too_long_at}
 use Rattle.tk_words.proofs.sources.reading.feed_piece.Goals as goal
 
 -- a text that is complete or has a fault is not one that goes on
@@ -17,7 +17,7 @@ returns-in_err-feed-clause-taken g c = λ before fed len.
     let end = c.min-end.result in
     let p = err_from_is_err_and c.from_residual.result c.from_residual.ensures.1 in
     rw (p.1, p.2)
-    (told_within before c.args.piece.now start end c.loop-start.invariant.within (omega (arith, c.min-end.ensures))
+    (reported_within before c.args.piece.now start end c.loop-start.invariant.within (omega (arith, c.min-end.ensures))
     g.P.TextReader.texts (omega (arith, len, c.min-end.ensures, c.requires.within, c.requires.limit.0))
     c.in_err-feed.field-0.0
     (c.in_err-feed.ensures (before ++ take start c.args.piece.now)
@@ -27,14 +27,14 @@ pub returns-in-Done-clause-taken : goal.returns-in-Done-clause-taken
 returns-in-Done-clause-taken g c = λ before fed len.
     let start = c.loop-start.start in
     let end = c.min-end.result in
-    let told =
+    let reported =
     rw c.in-Done.is at
     (c.in_ok-feed.ensures (before ++ take start c.args.piece.now)
     (c.loop-start.invariant.fed before fed len)) in (
       decided_within before c.args.piece.now start end c.loop-start.invariant.within
           (omega (arith, c.min-end.ensures)) g.P.TextReader.texts
-          (omega (arith, len, c.min-end.ensures, c.requires.within, c.requires.limit.0)) _ told.0,
-      told.1,
+          (omega (arith, len, c.min-end.ensures, c.requires.within, c.requires.limit.0)) _ reported.0,
+      reported.1,
     )
 
 pub loop-start-preserved : goal.loop-start-preserved
@@ -67,7 +67,7 @@ returns-in_err-feed-2-clause-taken g c = λ before fed len.
     let is : c.loop-start.start ≡ end = omega (arith, c.loop-start.invariant.within, c.loop-start-test.false) in
     let p = err_from_is_err_and c.from_residual-in_err-feed-2.result c.from_residual-in_err-feed-2.ensures.1 in
     rw (p.1, p.2)
-    (told_within before c.args.piece.now end (end + 1) (omega arith)
+    (reported_within before c.args.piece.now end (end + 1) (omega arith)
     (omega (arith, c.min-end.ensures, c.if-end-piece.false))
     g.P.TextReader.texts (omega (arith, len, c.min-end.ensures, c.requires.within, c.requires.limit.0))
     c.in_err-feed-2.field-0.0
@@ -78,14 +78,14 @@ pub returns-in-Done-2-clause-taken : goal.returns-in-Done-2-clause-taken
 returns-in-Done-2-clause-taken g c = λ before fed len.
     let end = c.min-end.result in
     let is : c.loop-start.start ≡ end = omega (arith, c.loop-start.invariant.within, c.loop-start-test.false) in
-    let told =
+    let reported =
     rw c.in-Done-2.is at
     (c.in_ok-feed-2.ensures (before ++ take end c.args.piece.now)
     (rw is at (c.loop-start.invariant.fed before fed len))) in (
       decided_within before c.args.piece.now end (end + 1) (omega arith)
           (omega (arith, c.min-end.ensures, c.if-end-piece.false)) g.P.TextReader.texts
-          (omega (arith, len, c.min-end.ensures, c.requires.within, c.requires.limit.0)) _ told.0,
-      told.1,
+          (omega (arith, len, c.min-end.ensures, c.requires.within, c.requires.limit.0)) _ reported.0,
+      reported.1,
     )
 
 pub returns-in-Taken-2-clause-taken : goal.returns-in-Taken-2-clause-taken
@@ -95,7 +95,7 @@ returns-in-Taken-2-clause-taken g c = λ before fed len.
     let is : c.loop-start.start ≡ end = omega (arith, c.loop-start.invariant.within, c.loop-start-test.false) in
     let now = rw is at (c.loop-start.invariant.fed before fed len) in
     let taken = rw c.in-Taken-2.is at (c.in_ok-feed-2.ensures (before ++ take end piece) now) in
-    rw (c.too_long-fault.ensures (before ++ take end piece) now, g.met.P.TextReader.too_long_told _)
+    rw (c.too_long-fault.ensures (before ++ take end piece) now, g.met.P.TextReader.too_long_reported _)
     (too_long_at g.P.TextReader.texts before piece end c.in-Taken-2.field-0
     (omega (arith, c.min-end.ensures, c.if-end-piece.false))
     (omega (arith, len, c.min-end.ensures, c.if-end-piece.false, c.requires.within, c.requires.limit.0))

@@ -5,8 +5,8 @@ use Rattle.std.proofs.KnownBytes.{Consumes-nil, Consumes-trans}
 use Rattle.std.proofs.lemmas.Result.{err_from_is_err_and}
 use Rattle.tk_words.specs.Texts.{Answers, WantMore}
 use Rattle.tk_words.specs.declared.sources.reading.TheConstants.{BUFFER_SIZE}
-use Rattle.tk_words.proofs.Driving.{ended_read, fault_read, value_read, where_read, where_decided}
-use Rattle.tk_words.proofs.Driving.{where_ended, where_cut_off}
+use Rattle.tk_words.proofs.DecidedTexts.{ended_read, fault_read, value_read, where_read, where_decided}
+use Rattle.tk_words.proofs.DecidedTexts.{where_ended, where_cut_off}
 use Rattle.tk_words.proofs.sources.reading.read_text.Given.{Over}
 use Rattle.tk_words.proofs.sources.reading.read_text.Goals as goal
 use Rattle.tk_words.proofs.sources.reading.read_text.Goals.{After-read}
@@ -91,15 +91,15 @@ returns-then-branch g c =
     let piece = take c.in-Ok.n c.read.new.buf in
     let want = wants g (goal.at.returns-then-branch g c).After-read in
     let few : length piece ≤ BUFFER_SIZE = omega (arith, length-take c.in-Ok.n c.read.new.buf) in
-    let told = rw c.if-branch.true at (c.in_ok-feed_piece.ensures.taken i.0 i.1 i.2) in
+    let reported = rw c.if-branch.true at (c.in_ok-feed_piece.ensures.taken i.0 i.1 i.2) in
     let whole : g.R.Source.broken c.read.new.self ≡ g.R.Source.broken c.args.source.now =
     c.in-Ok.ensures.ok ∙ c.loop-n.invariant.broken in
     record {
       reads = value_read g.R.Source texts g.P.TextReader.view c.args.source.now c.read.new.self whole c.value.result
           (rw c.value.ensures (where_decided texts i.0 want (Ok (g.P.TextReader.held c.feed_piece.new.reader))
           (left c.args.source.now) (left c.loop-n.source) (left c.read.new.self) piece few i.3
-          c.in-Ok.ensures.bytes.0 told.0))
-          (rw c.value.ensures ((i.0 ++ piece) ++ [], told.0 []));
+          c.in-Ok.ensures.bytes.0 reported.0))
+          (rw c.value.ensures ((i.0 ++ piece) ++ [], reported.0 []));
     }
 
 pub loop-n-init : goal.loop-n-init

@@ -4,13 +4,13 @@ use Rattle.std.proofs.lemmas.Result.{err_from_is_err_and}
 use Rattle.tk_problem_text.specs.declared.sections.coordinates.Wanted.TheVariants as wants
 use Rattle.tk_words.specs.Decimal.{decimal_of}
 use Rattle.tk_words.specs.Lex.{Token}
-use Rattle.tk_lines.specs.Reader.Forms.{whole}
+use Rattle.tk_lines.specs.Reader.Handlers.{whole}
 use Rattle.tk_lines.specs.Pieces.{first_at}
 use Rattle.tk_problem_text.specs.Reader.Coordinates.{HasPlaces}
 use Rattle.tk_problem_text.specs.Sections.Rows.{place_tests, node_tests, coordinate_tests, nodes_in, place_rows}
-use Rattle.tk_lines.proofs.Pieces.ToldFaults.{told_same}
+use Rattle.tk_lines.proofs.Pieces.ReportedFaults.{reported_same}
 use Rattle.tk_problem_text.proofs.SectionTokens.FixedSections.{EndsRow}
-use Rattle.tk_problem_text.proofs.SectionTokens.Rows.{node_tests-told}
+use Rattle.tk_problem_text.proofs.SectionTokens.Rows.{node_tests-reported}
 use Rattle.tk_problem_text.proofs.SectionTokens.PlaceRows.{AtNode, opened, at_node, node_taken, place_tests-node}
 use Rattle.tk_problem_text.proofs.SectionTokens.PlaceRows.{fewer_nodes, node_more, place_tests-x, x_more, x_taken}
 use Rattle.tk_problem_text.proofs.SectionTokens.PlaceRows.{place_tests-y, y_ends_row, coordinate_tests-ok}
@@ -50,8 +50,9 @@ returns-in_err-index-in-Node-clause-err c = λ n toks line has.
     let at = wants_node (goal.at.returns-in_err-index-in-Node-clause-err c).In-Node n toks has in
     let nodes = nodes_in (place_rows toks) in
     let p = err_from_is_err_and c.from_residual.result c.from_residual.ensures.1 in
-    rw (p.1, p.2) (told_same line k (place_tests n toks t) (node_tests n nodes t) (place_tests-node n toks t at.whole)
-    (node_tests-told n nodes t line k (c.in_err-index-in-Node.ensures.err n nodes line at.named)))
+    rw (p.1, p.2) (reported_same line k (place_tests n toks t) (node_tests n nodes t)
+    (place_tests-node n toks t at.whole)
+    (node_tests-reported n nodes t line k (c.in_err-index-in-Node.ensures.err n nodes line at.named)))
 
 pub returns-in_err-x-in-X-clause-err : goal.returns-in_err-x-in-X-clause-err
 returns-in_err-x-in-X-clause-err c = λ n toks line has.
@@ -62,7 +63,7 @@ returns-in_err-x-in-X-clause-err c = λ n toks line has.
     c.self.view_is c.in-X.is has in
     let p = err_from_is_err_and c.from_residual-in_err-x-in-X.result c.from_residual-in_err-x-in-X.ensures.1 in
     rw (p.1, p.2)
-    (told_same line k (place_tests n toks t) (coordinate_tests t)
+    (reported_same line k (place_tests n toks t) (coordinate_tests t)
     (place_tests-x n inside.places inside.nodes toks c.in-X.index here t)
     (coordinate_tests-err t line k c.in_err-x-in-X.ensures.value))
 
@@ -75,7 +76,7 @@ returns-in_err-y-in-Y-clause-err c = λ n toks line has.
     c.self.view_is c.in-Y.is has in
     let p = err_from_is_err_and c.from_residual-in_err-y-in-Y.result c.from_residual-in_err-y-in-Y.ensures.1 in
     rw (p.1, p.2)
-    (told_same line k (place_tests n toks t) (coordinate_tests t)
+    (reported_same line k (place_tests n toks t) (coordinate_tests t)
     (place_tests-y n inside.places inside.nodes toks c.in-Y.index c.in-Y.x here t)
     (coordinate_tests-err t line k c.in_err-y-in-Y.ensures.value))
 

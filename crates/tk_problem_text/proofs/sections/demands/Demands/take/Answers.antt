@@ -2,7 +2,7 @@ use Rattle.std.proofs.Common.{ℕ, ◌*◌, List, set, None, Some, sym, ap, ◌�
 use Rattle.std.proofs.lemmas.Bool.{eqb-true, eqb-false}
 use Rattle.std.proofs.lemmas.Result.{err_from_is_err_and}
 use Rattle.tk_words.specs.Lex.{Token}
-use Rattle.tk_lines.specs.Reader.Forms.{whole}
+use Rattle.tk_lines.specs.Reader.Handlers.{whole}
 use Rattle.tk_lines.specs.Pieces.{first_at}
 use Rattle.tk_problem_text.specs.Reader.Demands.{HasDemands}
 use Rattle.tk_problem_text.specs.Sections.Rows.{nodes_in, demand_rows, demand_tests}

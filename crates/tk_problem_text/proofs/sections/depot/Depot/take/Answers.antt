@@ -1,5 +1,5 @@
 use Rattle.std.proofs.lemmas.Result.{err_from_is_err_and}
-use Rattle.tk_lines.specs.Reader.Forms.{whole}
+use Rattle.tk_lines.specs.Reader.Handlers.{whole}
 use Rattle.tk_problem_text.proofs.SectionTokens.FixedSections.{ready}
 use Rattle.tk_problem_text.proofs.SectionTokens.DepotTaken.{has_node, refused_first, takes_behind, refused_behind}
 use Rattle.tk_problem_text.proofs.sections.depot.Depot.take.Goals as goal

@@ -2,7 +2,7 @@ use Rattle.std.proofs.lemmas.Int.{to_z-of_z}
 use Rattle.std.proofs.Common.{◌≡◌, rules, Some, ap, w64, to_z, of_z, SFits, [], ◌∷◌, ◌++◌, refl, sym, ◌∙◌}
 use Rattle.std.proofs.lemmas.Result.{err_from_is_err_and}
 use Rattle.tk_words.specs.Lex.{integer}
-use Rattle.tk_lines.specs.Reader.Forms.{whole}
+use Rattle.tk_lines.specs.Reader.Handlers.{whole}
 use Rattle.tk_problem_text.proofs.SectionTokens.WeightTokens.{is_last, is_more}
 use Rattle.tk_problem_text.proofs.sections.explicit_weights.ExplicitWeights.take.Goals as goal
 use Rattle.tk_problem_text.proofs.sections.explicit_weights.ExplicitWeights.take.Goals.{In-Some}

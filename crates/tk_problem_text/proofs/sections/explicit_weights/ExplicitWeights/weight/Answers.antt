@@ -10,7 +10,7 @@ use Rattle.tk_lines.specs.Pieces.{first_at}
 use Rattle.tk_problem.specs.WeightOrder.{weight_of, entries}
 use Rattle.tk_problem_text.specs.Sections.WeightSection.{is_full, weights_in, weight_tests}
 use Rattle.tk_problem_text.proofs.SectionTokens.WeightTokens.{if_some, place_here, weight_once, weight_same}
-use Rattle.tk_problem_text.proofs.SectionTokens.WeightTokens.{weight_beyond, told_again}
+use Rattle.tk_problem_text.proofs.SectionTokens.WeightTokens.{weight_beyond, reported_again}
 use Rattle.tk_problem_text.proofs.sections.explicit_weights.ExplicitWeights.weight.Goals as goal
 
 pub returns-in_default-clause-err : goal.returns-in_default-clause-err
@@ -49,7 +49,7 @@ returns-then-repeats-clause-err c = λ n f toks t has is.
     let again = sym c.repeats.ensures ∙ c.if-repeats.true in
     let below = ltb-true place.column place.row (and_parts _ _ again).1 in
     IfErr-weaker c.again.result
-    _ _ (told_again n f c.args.self.now toks has t place c.in-Some.weight c.place-place.ensures below
+    _ _ (reported_again n f c.args.self.now toks has t place c.in-Some.weight c.place-place.ensures below
     (is ∙ ap Some is_weight) small again) (c.again.ensures.err n f toks has)
 
 pub returns-clause-ok : goal.returns-clause-ok

@@ -1,7 +1,7 @@
 use Rattle.std.proofs.Common.{◌≡◌, ℕ, suc, ◌<◌, false, List, Some, arith, ◌∙◌, sym, subst}
 use Rattle.std.proofs.lemmas.Result.{err_from_is_err_and}
 use Rattle.tk_problem_text.specs.Reader.Nodes.{Named, HasNamed}
-use Rattle.tk_lines.specs.Reader.Forms.{whole}
+use Rattle.tk_lines.specs.Reader.Handlers.{whole}
 use Rattle.tk_lines.specs.Pieces.{Fault, first_at}
 use Rattle.tk_problem_text.specs.Sections.Rows.{node_tests, is_among}
 use Rattle.tk_problem_text.proofs.SectionTokens.Rows.{flag_at, length-flags, named_more, number_in-node, node_tests-new}

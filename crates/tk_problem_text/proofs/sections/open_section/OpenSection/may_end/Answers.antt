@@ -1,9 +1,9 @@
 use Rattle.std.proofs.Common.{subst, sym, ◌∙◌, true, ◌++◌}
 use Rattle.std.proofs.lemmas.Bool.{false≢true}
 use Rattle.tk_problem_text.specs.Reader.OpenSections.{IsOpen, IsPast}
-use Rattle.tk_lines.specs.Reader.Forms.{a_section}
+use Rattle.tk_lines.specs.Reader.Handlers.{a_section}
 use Rattle.tk_lines.specs.Pieces.{Early}
-use Rattle.tk_problem_text.proofs.ProblemForms.{home_past, early_stop, not_home}
+use Rattle.tk_problem_text.proofs.ProblemHandlers.{home_past, early_stop, not_home}
 use Rattle.tk_problem_text.proofs.sections.open_section.OpenSection.may_end.Goals as goal
 
 pub returns-in-Home-clause-yes : goal.returns-in-Home-clause-yes

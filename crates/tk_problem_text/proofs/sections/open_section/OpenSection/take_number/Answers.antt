@@ -2,14 +2,14 @@ use Rattle.std.proofs.Common.{◌*◌, [], ◌∷◌, ◌++◌, refl, subst}
 use Rattle.std.proofs.lemmas.Result.{IfErr-weaker}
 use Rattle.tk_words.specs.declared.keyword.Keyword.TheVariants as words
 use Rattle.tk_problem_text.specs.declared.sections.open_section.OpenSection.TheVariants.{Places, Explicit, Loads}
-use Rattle.tk_lines.specs.Reader.Forms.{whole}
+use Rattle.tk_lines.specs.Reader.Handlers.{whole}
 use Rattle.tk_problem_text.specs.Sections.WeightSection.{weight_count}
 use Rattle.tk_problem_text.specs.Problem.{size_of, format_in}
 use Rattle.tk_problem_text.specs.Reader.Coordinates.{HasPlaces}
 use Rattle.tk_problem_text.specs.Reader.Demands.{HasDemands}
 use Rattle.tk_problem_text.specs.Reader.Weighing.{HasWeights}
 use Rattle.tk_problem_text.specs.Reader.OpenSections.{IsOpen}
-use Rattle.tk_problem_text.proofs.SectionTokens.DemandRows.{demand_tests-told}
+use Rattle.tk_problem_text.proofs.SectionTokens.DemandRows.{demand_tests-reported}
 use Rattle.tk_problem_text.proofs.SectionTokens.OpenSections.{takes, refuses, display_take}
 use Rattle.tk_problem_text.proofs.sections.open_section.OpenSection.take_number.Goals as goal
 
@@ -57,7 +57,7 @@ returns-in-Loads-clause-err c = λ counted number before word n toks line is_ope
     let o = subst (IsOpen before word n toks) c.in-Loads.is is_open in
     refuses c.args.token.now c.requires before n toks line number c.take-in-Loads.result words.DemandSection word o.0
     o.1 (IfErr-weaker c.take-in-Loads.result
-    _ _ (demand_tests-told (size_of before) toks (whole c.args.token.now line) line)
+    _ _ (demand_tests-reported (size_of before) toks (whole c.args.token.now line) line)
     (c.take-in-Loads.ensures.err (size_of before) toks line o.2))
 
 pub returns-in-Display-clause-ok : goal.returns-in-Display-clause-ok

@@ -1,6 +1,6 @@
 use Rattle.std.proofs.Common.{◌∙◌, ap}
 use Rattle.tk_rings.specs.Rings.{is_closed, join}
-use Rattle.tk_ring_search.proofs.Parts.{is_within_by}
+use Rattle.tk_ring_search.proofs.KickParts.{is_within_by}
 use Rattle.tk_ring_search.proofs.kicks.kick.Kick.fits.Goals as goal
 
 pub returns : goal.returns

@@ -1,6 +1,6 @@
-use Rattle.tk_tour.proofs.Bridge.{after1, after2, after3, after4, can1, can2, can3, can4}
+use Rattle.tk_tour.proofs.DoubleBridgeFlips.{after1, after2, after3, after4, can1, can2, can3, can4}
 use Rattle.tk_search.proofs.DoubleBridge.KickSwaps.{first_side, second_side, third_side, fourth_side, four_turns}
-use Rattle.tk_ring_search.proofs.Parts.{bridged_of, cut_of}
+use Rattle.tk_ring_search.proofs.KickParts.{bridged_of, cut_of}
 use Rattle.tk_ring_search.proofs.kicks.kick.Kick.make.Goals as goal
 
 pub flip-requires : goal.flip-requires

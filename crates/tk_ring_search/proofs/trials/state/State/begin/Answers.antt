@@ -1,6 +1,6 @@
 use Rattle.std.proofs.Common.{ℕ, List, ◌≡◌, ◌+◌, length, pos, refl, sym, ap, ◌∙◌, subst, rules, arith}
 use Rattle.std.proofs.lemmas.Int.{to_z-of_z}
-use Rattle.tk_descent.proofs.WakeRuns.Passes.{all_awake}
+use Rattle.tk_descent.proofs.WakeExecutions.Passes.{all_awake}
 use Rattle.tk_tour.specs.JournalTours.{KeepsSettled, cities_of}
 use Rattle.tk_tour.specs.Tour.{tour_length}
 use Rattle.tk_tour.proofs.CitiesOfTours.{cities_of_tour}

@@ -16,8 +16,9 @@ use Rattle.tk_ring_search.specs.Kicks.{ends_of, kicked}
 use Rattle.tk_ring_search.specs.Searching.{slots_for}
 use Rattle.tk_ring_search.specs.declared.trials.best.Best.{Best}
 use Rattle.tk_ring_search.specs.declared.trials.totals.RingTotals.{RingTotals}
-use Rattle.tk_ring_search.proofs.Settling.{can_not, can_undo, cost_is, few_cost, held_is, kept, limit_is, settled_of}
-use Rattle.tk_ring_search.proofs.Settling.{shortest_is, undone_can}
+use Rattle.tk_ring_search.proofs.TrialResults.{can_not, can_undo, cost_is, few_cost, held_is, kept, limit_is}
+use Rattle.tk_ring_search.proofs.TrialResults.{settled_of}
+use Rattle.tk_ring_search.proofs.TrialResults.{shortest_is, undone_can}
 use Rattle.tk_ring_search.proofs.trials.state.State.descend_kicked.Goals as goal
 
 pub descend-passes-requires-clause-fits : goal.descend-passes-requires-clause-fits

@@ -3,9 +3,9 @@ use Rattle.std.proofs.lemmas.Int.{ints}
 use Rattle.std.specs.List.{All}
 use Rattle.tk_distance.specs.Cities.{IsCity}
 use Rattle.tk_problem.specs.declared.limits.TheConstants.{CITY_LIMIT}
-use Rattle.tk_descent.proofs.WakeRuns.DescentSteps.{fits_length}
+use Rattle.tk_descent.proofs.WakeExecutions.DescentSteps.{fits_length}
 use Rattle.tk_tour.specs.JournalTours.{cities_of}
-use Rattle.tk_ring_search.proofs.Parts.{length_of}
+use Rattle.tk_ring_search.proofs.KickParts.{length_of}
 use Rattle.tk_ring_search.proofs.trials.state.State.make.Goals as goal
 
 pub wake_each-requires : goal.wake_each-requires

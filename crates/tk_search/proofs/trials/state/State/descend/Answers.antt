@@ -2,7 +2,7 @@ use Rattle.std.proofs.Common.{rules, ◌≡◌, ◌≤◌, ◌+◌, ◌*◌, ◌
 use Rattle.std.proofs.lemmas.Int.{to_z-of_z}
 use Rattle.std.specs.Prelude.{pos, true, false, if◌then◌else◌}
 use Rattle.tk_problem.specs.declared.limits.TheConstants.{CITY_LIMIT}
-use Rattle.tk_descent.proofs.WakeRuns.DescentSteps.{fits_length}
+use Rattle.tk_descent.proofs.WakeExecutions.DescentSteps.{fits_length}
 use Rattle.tk_tour.specs.Counters.{saturated}
 use Rattle.tk_tour.specs.Tour.{tour_length}
 use Rattle.tk_tour.specs.JournalTours.{cities_of, slots_of, flips_since, KeepsSettled}
@@ -23,7 +23,7 @@ risen more x y x' y' old new by same before after = record { most = omega arith;
 pub returns-clause-trial : goal.returns-clause-trial
 returns-clause-trial g c =
     let e = c.descend_by-passes.ensures in
-    let told = e.reported in
+    let reported = e.reported in
     let k = c.keep_better.ensures in
     let m = c.args.metric.now in
     let old = c.args.self.now.tour in
@@ -34,7 +34,7 @@ returns-clause-trial g c =
     let bound = fits_length (g.M.Metric.distance m) (cities_of old)
     (g.met.M.Metric.symmetric m, g.met.M.Metric.distance_limit m) few in
     let exact : flips_since tour ≡ flips_since old + kept.flipped.flips =
-    omega (arith, kept.flips, told.flips_most, told.moves, bound, c.requires.flips) in
+    omega (arith, kept.flips, reported.flips_most, reported.moves, bound, c.requires.flips) in
     let fa : SFits w64 c.descend_by-passes.result.descent.after = search rules in
     let fb : SFits w64 c.args.self.now.shortest = search rules in (
       record {
@@ -42,11 +42,11 @@ returns-clause-trial g c =
         descends = e.descends;
         flips = kept.flipped.flips;
         swaps = kept.flipped.swaps;
-        few = omega (arith, exact, told.flips_most);
+        few = omega (arith, exact, reported.flips_most);
         reversed = kept.flipped.reversed;
-        before = told.before;
-        after = told.after;
-        better = less_of _ _ _ _ fa fb told.after c.requires.shortest;
+        before = reported.before;
+        after = reported.after;
+        better = less_of _ _ _ _ fa fb reported.after c.requires.shortest;
         replaced = k.replaced;
         kept = k.kept;
       },
@@ -96,21 +96,21 @@ returns-clause-shortest g c =
 
 pub returns-clause-adds : goal.returns-clause-adds
 returns-clause-adds g c =
-    let told = c.descend_by-passes.ensures.reported in
+    let reported = c.descend_by-passes.ensures.reported in
     let fp : SFits w64 c.args.before = search rules in
     let fa : SFits w64 c.descend_by-passes.result.descent.after = search rules in
-    let begins = told.before ∙ sym (to_z-of_z w64 c.args.before fp ∙ c.requires.before) in
-    gain_is _ _ _ _ _ (gain_bits _ _ _ _ _ _ fp fa c.requires.before told.after begins
+    let begins = reported.before ∙ sym (to_z-of_z w64 c.args.before fp ∙ c.requires.before) in
+    gain_is _ _ _ _ _ (gain_bits _ _ _ _ _ _ fp fa c.requires.before reported.after begins
     c.unsigned_abs-gained.ensures.value) c.with_trial-self.ensures.adds
 
 pub returns-clause-swapped : goal.returns-clause-swapped
 returns-clause-swapped g c =
-    let told = c.descend_by-passes.ensures.reported in
-    c.keep_better.ensures.swaps ∙ omega (arith, told.swaps, told.rises.1)
+    let reported = c.descend_by-passes.ensures.reported in
+    c.keep_better.ensures.swaps ∙ omega (arith, reported.swaps, reported.rises.1)
 
 pub returns-clause-bounded : goal.returns-clause-bounded
 returns-clause-bounded g c =
-    let told = c.descend_by-passes.ensures.reported in
+    let reported = c.descend_by-passes.ensures.reported in
     let r = c.descend_by-passes.result in
     let old = length (cities_of c.args.self.now.tour) in
     let awake = c.args.self.now.waking.queue in
@@ -124,11 +124,11 @@ returns-clause-bounded g c =
     let swept : c.args.rules.sweep ≡ true → first ≡ length (best_of c.args.self.now.best) * r.passes =
     λ yes. ap (λ z. if z then old * r.passes else length awake) yes ∙ ap (λ v. v * r.passes) c.requires.size in
     record {
-      moves = moves_gain _ _ _ _ _ told.before told.after told.moves;
-      swaps = subst Swaps c.requires.size told.swaps_most;
+      moves = moves_gain _ _ _ _ _ reported.before reported.after reported.moves;
+      swaps = subst Swaps c.requires.size reported.swaps_most;
       passes = c.descend_by-passes.ensures.passes;
-      looks = λ no. subst Looks (once no) told.looks_most;
-      tests = λ no. subst Tests (once no) told.tests_most;
-      swept_looks = λ yes. subst Looks (swept yes) told.looks_most;
-      swept_tests = λ yes. subst Tests (swept yes) told.tests_most;
+      looks = λ no. subst Looks (once no) reported.looks_most;
+      tests = λ no. subst Tests (once no) reported.tests_most;
+      swept_looks = λ yes. subst Looks (swept yes) reported.looks_most;
+      swept_tests = λ yes. subst Tests (swept yes) reported.tests_most;
     }

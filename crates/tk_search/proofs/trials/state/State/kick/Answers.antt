@@ -1,7 +1,7 @@
 use Rattle.std.proofs.Common.{ℕ, List, ◌≤◌, length, ap, ◌∙◌, sym, subst, arith}
 use Rattle.std.proofs.lemmas.Int.{ints}
 use Rattle.tk_problem.specs.declared.limits.TheConstants.{CITY_LIMIT}
-use Rattle.tk_descent.proofs.WakeRuns.DescentSteps.{fits_length}
+use Rattle.tk_descent.proofs.WakeExecutions.DescentSteps.{fits_length}
 use Rattle.tk_descent.specs.Awake.{one_to, woken_each}
 use Rattle.tk_tour.specs.JournalTours.{cities_of, tour_of}
 use Rattle.tk_search.specs.Cuts.{AreCuts, drawn_cuts}

@@ -5,8 +5,8 @@ use Rattle.tk_tour.specs.Tour.{tour_length}
 use Rattle.tk_search.specs.Best.{best_of, copied_to}
 use Rattle.tk_search.specs.declared.trials.best.Best.{Best}
 use Rattle.tk_descent.specs.Awake.{one_to}
-use Rattle.tk_descent.proofs.WakeRuns.Passes.{all_awake}
-use Rattle.tk_descent.proofs.WakeRuns.Woken.{one_to-length}
+use Rattle.tk_descent.proofs.WakeExecutions.Passes.{all_awake}
+use Rattle.tk_descent.proofs.WakeExecutions.WokenQueue.{one_to-length}
 use Rattle.tk_search.specs.Totals.{AddsTrial}
 use Rattle.tk_search.specs.Trials.{gain_of, IsBoundedTrial}
 use Rattle.tk_search.specs.declared.trials.totals.Totals.{Totals}

@@ -1,6 +1,0 @@
-use Rattle.std.proofs.lemmas.Grind.{elements}
-use Rattle.std.proofs.Common.{arith}
-use Rattle.tk_descent.proofs.steps.Steps.new.Goals as goal
-
-pub returns : goal.returns
-returns c = grind (arith, elements)

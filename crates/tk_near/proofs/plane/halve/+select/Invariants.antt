@@ -1,4 +1,0 @@
-use Rattle.tk_near.proofs.plane.halve.+select.Given as goal
-
-abbrev pub decreases-select : goal.decreases-select
-decreases-select l = l.rounds

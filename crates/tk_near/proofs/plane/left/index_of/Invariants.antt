@@ -1,6 +1,0 @@
-use Rattle.std.proofs.Common.{◌≢◌, ℕ, ◌<◌}
-use Rattle.tk_near.specs.Placed.{placed_city}
-use Rattle.tk_near.proofs.plane.left.index_of.Given as goal
-
-abbrev pub invariant-loop-i : goal.invariant-loop-i
-invariant-loop-i l = (k : ℕ) → k < l.i → placed_city l.row k ≢ l.p.city

@@ -1,6 +1,0 @@
-use Rattle.tk_problem_text.proofs.problem_form.ProblemFormForm.end_section.Goals as goal
-
-pub returns-clause-ok : goal.returns-clause-ok
-returns-clause-ok c = λ before word n toks line wants.
-    let may = c.may_end.ensures.yes c.if-not-may_end.false before word n toks line wants.section in
-    (c.close.ensures before word n _ wants.parts wants.sized wants.fresh may.0, may.1)

@@ -1,0 +1,10 @@
+use Rattle.std.proofs.Common.{ℕ, List, subst}
+use Rattle.tk_segments.specs.Segments.{IsSpot, IsAfterPlace}
+use Rattle.tk_segments.specs.declared.segment.Segment.{Segment}
+use Rattle.tk_segments.proofs.segments.Segments.after.Goals as goal
+
+pub returns : goal.returns
+returns c =
+    let P : List Segment → Type 0 = λ u. (v w : ℕ) → IsSpot u v c.args.spot → IsAfterPlace c.args.self.now.size v w →
+    IsSpot u w c.after.result in
+    subst P c.deref.ensures.value c.after.ensures
