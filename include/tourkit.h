@@ -171,7 +171,8 @@ void tourkit_solve_routes(const uint8_t *problem, size_t problem_size, const uin
 
 /* Draws a problem, and if `has_claim` is true, the tour or the routes of a text: `out` gets the picture (SVG), of `needed`
  * bytes. If the tour or the routes have a fault, the status is TOURKIT_FOUND, and `reported` gets the line that reports it, of
- * `needed_file` bytes. If a text is rejected, `reported` gets the message, of `needed` bytes. */
+ * `needed_file` bytes. If a text is rejected, `reported` gets the message, of `needed` bytes. A problem with explicit weights is
+ * drawn if its text places the cities, by DISPLAY_DATA_SECTION or NODE_COORD_SECTION; otherwise `kind` is TOURKIT_NO_PLACES. */
 void tourkit_plot(const uint8_t *problem, size_t problem_size, const uint8_t *claim, size_t claim_size, bool has_claim,
                   uint8_t *out, size_t out_size, uint8_t *reported, size_t reported_size, tourkit_answer *answer);
 

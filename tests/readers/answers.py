@@ -11,7 +11,7 @@ import sys
 sys.dont_write_bytecode = True
 
 import refusal
-from texts import Fault, ParamFault, UNIT, places, read_params, read_problem, read_solution, read_tour
+from texts import Fault, ParamFault, UNIT, places, read_params, read_placed_problem, read_problem, read_solution, read_tour
 
 
 class Refused(Exception):
@@ -227,8 +227,8 @@ def shown(name):
 
 def plot(problem_file, claim_file=None):
     opened = open_word(problem_file), claim_file and open_word(claim_file)
-    problem = read_file(problem_file, opened[0], read_problem)
-    if problem.kind == b"EXPLICIT":
+    problem = read_file(problem_file, opened[0], read_placed_problem)
+    if not problem.points:
         raise Refused(f"tourkit: {problem_file}: no coordinates", 2)
     if not claim_file:
         return picture(problem, f"{problem.n} cities", {}), 0
@@ -268,7 +268,7 @@ def picture(problem, caption, paths, numbered=False):
     spot = {c: f"{(x - left) * 10000 // side},{(top - y) * 10000 // side}" for c, x, y in zip(cities, xs, ys)}
     width, height = (-((low - high) * 1000 // side) for low, high in ((left, max(xs)), (bottom, top)))
     room = max(200, height)
-    title = f"{shown(problem.name)}: {caption}"
+    title = f"{shown(problem.name)}: {caption}" + (f", places: {problem.origin} of the file" if problem.origin else "")
     small = problem.n < 2000
     lines = [f'<svg xmlns="http://www.w3.org/2000/svg" viewBox="0 0 1040 {80 + room}">', f"<title>{title}</title>",
              '<rect width="100%" height="100%" fill="white"/>',

@@ -64,6 +64,11 @@ def coordinate(random, span):
     return random.choice([b"0", b"1", b"0.5", b"-.5", b"2.", b"1e0"])
 
 
+def points(random, nodes, span):
+    """Returns the tokens of a section with the coordinates of nodes."""
+    return [token for node in nodes for token in (b"%d" % node, coordinate(random, span), coordinate(random, span))]
+
+
 def problem(random, n, cvrp):
     lines = [header(random, b"TYPE", random.choice([b"CVRP"] if cvrp else [b"TSP"])), header(random, b"DIMENSION", b"%d" % n)]
     if random.random() < 0.8:
@@ -93,10 +98,12 @@ def problem(random, n, cvrp):
             numbers.append(b"%d" % weight)
         sections.append([b"EDGE_WEIGHT_SECTION", *rows(random, numbers, random.choice([n, 10]))])
     else:
-        numbers = [number for node in nodes for number in (b"%d" % node, coordinate(random, span), coordinate(random, span))]
-        sections.append([b"NODE_COORD_SECTION", *rows(random, numbers, 3)])
-    if random.random() < 0.1:
-        sections.append([b"DISPLAY_DATA_SECTION", *rows(random, [b"1"] * (3 * n), 3)])
+        sections.append([b"NODE_COORD_SECTION", *rows(random, points(random, nodes, span), 3)])
+    if explicit and random.random() < 0.3:
+        sections.append([b"NODE_COORD_SECTION", *rows(random, points(random, nodes, span), 3)])
+    if random.random() < (0.4 if explicit else 0.1):
+        ignored = [b"1"] * (3 * n)
+        sections.append([b"DISPLAY_DATA_SECTION", *rows(random, points(random, nodes, span) if explicit else ignored, 3)])
     if cvrp:
         depot = random.randint(1, n) if random.random() < 0.5 else 1
         numbers = [number for node in nodes for number in (b"%d" % node, b"%d" % (0 if node == depot else random.randint(0, 3)))]

@@ -54,6 +54,7 @@ class Problem:
     capacity: int = 0
     demand: dict = field(default_factory=dict)
     depot: int = 0
+    origin: str = ""  # of the points, if the distances do not depend on them
 
 
 def integer(word):
@@ -218,7 +219,10 @@ class Handler:
 
 
 class ProblemHandler(Handler):
-    """Problem texts."""
+    """Problem texts. If `placed` is true, the values of DISPLAY_DATA_SECTION are coordinates, unless the distances are known to depend on
+    others."""
+
+    placed = False
 
     def take_header(self, key, value, first, begins):
         if key == b"NAME":
@@ -261,6 +265,8 @@ class ProblemHandler(Handler):
             self.value[key] = self.rows(n, integer, 0, 2 * 10**9, 1)
         elif key == b"EDGE_WEIGHT_SECTION":
             self.value[key] = self.weights(n)
+        elif key == b"DISPLAY_DATA_SECTION" and self.placed and self.value.get(b"EDGE_WEIGHT_TYPE", b"EXPLICIT") == b"EXPLICIT":
+            self.value[key] = self.rows(n, decimal, -10**9 * UNIT, 10**9 * UNIT, 2)
         elif key == b"DISPLAY_DATA_SECTION":
             for _ in range(3 * n):
                 text.number(lambda token: 0, 0, 0)
@@ -310,6 +316,10 @@ class ProblemHandler(Handler):
         self.need(b"EDGE_WEIGHT_SECTION" if kind == b"EXPLICIT" else b"NODE_COORD_SECTION")
         problem = Problem(value.get(b"NAME") or b"Unnamed", value[b"DIMENSION"], value[b"TYPE"] == b"CVRP", kind,
                           value.get(b"NODE_COORD_SECTION", {}), value.get(b"EDGE_WEIGHT_SECTION", {}))
+        if kind == b"EXPLICIT" and problem.points:
+            problem.origin = "node coordinates"
+        if kind == b"EXPLICIT" and b"DISPLAY_DATA_SECTION" in value:
+            problem.points, problem.origin = value[b"DISPLAY_DATA_SECTION"], "display data"
         if problem.cvrp:
             for key in (b"CAPACITY", b"DEMAND_SECTION", b"DEPOT_SECTION"):
                 self.need(key)
@@ -373,6 +383,13 @@ def places(form, n):
 
 def read_problem(data):
     return ProblemHandler(data).read()
+
+
+def read_placed_problem(data):
+    """Returns a problem with the points that a picture shows."""
+    reader = ProblemHandler(data)
+    reader.placed = True
+    return reader.read()
 
 
 def read_tour(data):

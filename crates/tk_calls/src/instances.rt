@@ -5,6 +5,11 @@ pub const SQUARE: &[u8] =
     b"NAME : p\nTYPE : TSP\nDIMENSION : 4\nEDGE_WEIGHT_TYPE : EUC_2D\nNODE_COORD_SECTION\n1 0 0\n2 10 10\n3 10 0\n\
     4 0 10\nEOF\n";
 
+/// Two cities with explicit weights, at places in pictures.
+pub const MAP: &[u8] =
+    b"TYPE : TSP\nDIMENSION : 2\nEDGE_WEIGHT_TYPE : EXPLICIT\nEDGE_WEIGHT_FORMAT : UPPER_ROW\nEDGE_WEIGHT_SECTION\n5\n\
+    DISPLAY_DATA_SECTION\n1 0 0\n2 3 4\n";
+
 /// Eight cities in a row, one apart.
 pub const ROW: &[u8] =
     b"TYPE : TSP\nDIMENSION : 8\nEDGE_WEIGHT_TYPE : MAN_2D\nNODE_COORD_SECTION\n1 0 0\n2 1 0\n3 2 0\n4 3 0\n5 4 0\n\

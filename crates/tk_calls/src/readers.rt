@@ -1,11 +1,14 @@
 //! The readers of texts.
 use crate::again;
-use crate::instances::{PARAMETERS, SOLUTION, SQUARE, TOUR};
+use crate::instances::{MAP, PARAMETERS, SOLUTION, SQUARE, TOUR};
 use crate::lines::{tell, tell_number};
 use crate::refusals::Stopped;
 use std::alloc::Global;
 use tk_engines::{Params, read_params};
-use tk_text::{FromRead, Problem, SolText, TextFault, read_problem, read_solution, read_tour};
+use tk_text::{
+    FromRead, Problem, SolText, TextFault, read_placed_problem, read_problem, read_solution,
+    read_tour,
+};
 
 /// Reads a problem.
 fn read(alloc: Global, text: &[u8]) -> Result<Problem, TextFault> {
@@ -18,6 +21,17 @@ pub fn problem_of(rt: &HostRuntime, text: &[u8]) -> Result<Problem, Stopped> {
     let problem = again!(rt, "read_problem", read(alloc, text))?;
     tell_number(rt, "read_problem", &problem.n, "nodes")?;
     Ok(problem)
+}
+
+/// Reads a problem with the places of its cities.
+fn call_for_places(rt: &HostRuntime) -> Result<(), Stopped> {
+    let alloc = rt.alloc();
+    let placed = again!(
+        rt,
+        "read_placed_problem",
+        read_placed_problem(alloc, &mut FromRead::new(MAP))
+    )?;
+    tell_number(rt, "read_placed_problem", &placed.problem.n, "nodes")
 }
 
 /// Reads a tour.
@@ -70,6 +84,7 @@ fn call_for_params(rt: &HostRuntime) -> Result<(), Stopped> {
 /// Reads a text of each format.
 pub fn make_calls(rt: &HostRuntime) -> Result<(), Stopped> {
     let _ = problem_of(rt, SQUARE)?;
+    call_for_places(rt)?;
     call_for_tour(rt)?;
     call_for_solution(rt)?;
     call_for_params(rt)

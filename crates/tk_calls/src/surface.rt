@@ -4,9 +4,10 @@
 /// Texts.
 pub mod texts {
     pub use tk_text::{
-        Failed, Format, FromRead, Keyword, PlaneKind, Point, Problem, Routing, Sink, SolText,
-        Source, TextFault, TextKind, ToWrite, TourText, Weights, WriteFault, read_problem,
-        read_solution, read_tour, write_matrix, write_solution, write_tour,
+        Failed, Format, FromRead, GivenPlaces, Keyword, PlacedProblem, PlacesOrigin, PlaneKind,
+        Point, Problem, Routing, Sink, SolText, Source, TextFault, TextKind, ToWrite, TourText,
+        Weights, WriteFault, read_placed_problem, read_problem, read_solution, read_tour,
+        write_matrix, write_solution, write_tour,
     };
 }
 

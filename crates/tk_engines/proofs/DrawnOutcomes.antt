@@ -9,6 +9,7 @@ use Rattle.tk_problem.specs.declared.point.Point.{Point}
 use Rattle.tk_problem.specs.declared.routing.Routing.{Routing}
 use Rattle.tk_problem.specs.declared.weights.PlaneKind.{PlaneKind}
 use Rattle.tk_problem.specs.declared.weights.Weights.TheVariants.{Points}
+use Rattle.tk_problem_text.specs.declared.placed_problem.GivenPlaces.{GivenPlaces}
 use Rattle.tk_problem_text.specs.ProblemOf.{problem_is, routing_is, weights_are}
 use Rattle.tk_distance.specs.Weights.{problem_distance}
 use Rattle.tk_tour.specs.Tour.{IsTour, tour_length}
@@ -31,23 +32,24 @@ use Rattle.tk_picture.specs.declared.picture.Picture.{Picture}
 use Rattle.tk_picture.specs.declared.subject.Subject.{Subject}
 use Rattle.tk_picture.specs.declared.view.View.{View}
 use Rattle.tk_picture.specs.Pictures.{drawing_of, text_in}
-use Rattle.tk_engines.specs.Plot.{Refused, IsPicture, IsRouteOutput, IsTourOutput, IsViewOf, demands_in}
+use Rattle.tk_engines.specs.Plot.{Refused, IsPicture, IsRouteOutput, IsTourOutput, IsViewOf, demands_in, origin_of}
 
 depot_read : (o : Option Routing) → option_map (λ r. r.depot) (routing_is o) ≡ option_map (λ r. r.depot) o
 depot_read None = refl
 depot_read (Some r) = refl
 
 -- a picture of a problem's view is one of the problem
-pub picture_drawn : (form : OutputFormat) (p : Problem) (picture : Picture) (v : View) (subject : Subject)
-    → IsViewOf (problem_is p) v → picture.name.now ≡ p.name.items
+pub picture_drawn : (form : OutputFormat) (places : Option GivenPlaces) (p : Problem) (picture : Picture) (v : View)
+    (subject : Subject)
+    → IsViewOf places (problem_is p) v → picture.name.now ≡ p.name.items → picture.origin ≡ origin_of places
     → picture.view ≡ v → picture.subject ≡ subject → picture.depot ≡ option_map (λ r. r.depot) p.routing
     → picture.demands.now ≡ demands_in (routing_is p.routing)
-    → IsPicture form (problem_is p) (drawing_of subject) (text_in form picture)
-picture_drawn form p picture v subject is name view drawn depot demands =
+    → IsPicture form places (problem_is p) (drawing_of subject) (text_in form picture)
+picture_drawn form places p picture v subject is name origin view drawn depot demands =
     record {
       extent = v.extent;
-      is_extent = rw is.places at is.extent;
-      is = rw (view, is.places, name, drawn, depot, depot_read p.routing, demands);
+      is_extent = rw is.points at is.extent;
+      is = rw (view, is.points, name, origin, drawn, depot, depot_read p.routing, demands);
     }
 
 -- the length by a problem is that by its text
@@ -56,16 +58,19 @@ pub length_read : (p : Problem) (cities : List ℕ) →
 length_read p cities = ap (λ d. tour_length d cities) (read_distance_is p.weights)
 
 -- a verdict that is no tour is reported
-pub tour_reported : (form : OutputFormat) (p : Problem) (cities : List ℕ) (v : Verdict) → (v ≡ verdicts.Tour → ⊥)
-    → IsTourOutput form (problem_is p) cities v (Refused (verdict_line p.n (problem_distance p.weights) cities v))
-tour_reported form p cities verdicts.Tour fault = fault refl
-tour_reported form p cities v fault = ap (λ d. verdict_line p.n d cities v) (read_distance_is p.weights)
+pub tour_reported : (form : OutputFormat) (places : Option GivenPlaces) (p : Problem) (cities : List ℕ) (v : Verdict)
+    → (v ≡ verdicts.Tour → ⊥)
+    → IsTourOutput form places (problem_is p) cities v
+    (Refused (verdict_line p.n (problem_distance p.weights) cities v))
+tour_reported form places p cities verdicts.Tour fault = fault refl
+tour_reported form places p cities v fault = ap (λ d. verdict_line p.n d cities v) (read_distance_is p.weights)
 
-pub routes_reported : (form : OutputFormat) (p : Problem) (i : Instance) (routes : List (List ℕ)) (v : RouteVerdict)
+pub routes_reported : (form : OutputFormat) (places : Option GivenPlaces) (p : Problem) (i : Instance)
+    (routes : List (List ℕ)) (v : RouteVerdict)
     → ((count : ℕ) (cost : ℤ) → v ≡ route_verdicts.Valid count cost → ⊥)
-    → IsRouteOutput form (problem_is p) i routes v (Refused (route_verdict_line v))
-routes_reported form p i routes (route_verdicts.Valid count cost) fault = fault count cost refl
-routes_reported form p i routes _ fault = refl
+    → IsRouteOutput form places (problem_is p) i routes v (Refused (route_verdict_line v))
+routes_reported form places p i routes (route_verdicts.Valid count cost) fault = fault count cost refl
+routes_reported form places p i routes _ fault = refl
 
 -- no customer stands twice on valid routes
 pub served_once : (i : Instance) (routes : List (List ℕ)) → AreRoutes i (filled_of routes) →

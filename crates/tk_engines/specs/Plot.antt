@@ -1,5 +1,7 @@
 -- The input and the output of `plot`.
---     plot_task form given      the task, given the format of a picture, and whether there is a second text
+--     ReadsPlaced places      the problem is read, with these places of its cities if its weights are explicit
+--     plot_task form places given      the task, given the format of a picture, these places, and whether there is a
+--         second text
 --     ReadsClaim given      the second text is read as a tour if the problem has no routing, otherwise as a solution
 --     WritesOutput      a picture goes to one sink, or the line with a fault to the other
 use Rattle.std.specs.Prelude.{◌≡◌, ℕ, ◌⊎◌, Bool, true, false, List, [], Option, Some, None, Ok, Err, IsSomeAnd}
@@ -8,6 +10,9 @@ use Rattle.std.specs.Int.RustNames.{unsigned_abs}
 use Rattle.tk_problem.specs.declared.point.Point.{Point}
 use Rattle.tk_words.specs.declared.sources.source.Source as sources
 use Rattle.tk_writers.specs.declared.output.sink.Sink as sinks
+use Rattle.tk_problem_text.specs.declared.placed_problem.GivenPlaces.{GivenPlaces}
+use Rattle.tk_problem_text.specs.declared.placed_problem.PlacesOrigin.{PlacesOrigin}
+use Rattle.tk_problem_text.specs.Placed.{placed_texts}
 use Rattle.tk_problem_text.specs.Problem.{ProblemIs, RoutingIs, WeightsAre}
 use Rattle.tk_problem_text.specs.Problem as value
 use Rattle.tk_problem.specs.PlacesOf.{places_of}
@@ -24,11 +29,12 @@ use Rattle.tk_routes.specs.declared.checking.verdict.RouteVerdict.{RouteVerdict}
 use Rattle.tk_routes.specs.declared.checking.verdict.RouteVerdict.TheVariants as route_verdicts
 use Rattle.tk_engines.specs.Check.{verdict_line}
 use Rattle.tk_engines.specs.ReadProblems.{read_distance}
-use Rattle.tk_engines.specs.Engine.{AtWrite, EndsByProblem, HasRead, IsUnread, IsUnwritten, NoClash, Reading}
-use Rattle.tk_engines.specs.Engine.{ReadsProblem, ReadsSolution, ReadsTour, Task, UnlessWrite, Writing}
+use Rattle.tk_engines.specs.Engine.{AtWrite, EndsByProblem, HasRead, IsRead, IsUnread, IsUnwritten, NoClash, Reading}
+use Rattle.tk_engines.specs.Engine.{Reads, ReadsSolution, ReadsTour, Task, UnlessWrite, Writing}
 use Rattle.tk_engines.specs.Lines.RouteLine.{route_verdict_line}
 use Rattle.tk_engines.specs.ReadProblems.{instance_in}
 use Rattle.tk_engines.specs.declared.fault.Fault.{Fault}
+use Rattle.tk_engines.specs.declared.fault.Fault.TheVariants as faults
 use Rattle.tk_engines.specs.declared.fault.Fault.TheVariants.{NoPlaces}
 use Rattle.tk_picture.specs.Drawings.{ATour, Cities, Drawing, SomeRoutes}
 use Rattle.tk_picture.specs.declared.extent.Extent.{Extent}
@@ -40,6 +46,12 @@ use Rattle.tk_picture.specs.declared.picture.OutputFormat.{OutputFormat}
 use Rattle.tk_picture.specs.Pictures.{form_text}
 
 -- ---- input
+
+-- the problem is read, and its text gives these places of the cities if the weights are explicit
+abbrev pub ReadsPlaced : {S : Type 0} → sources.Ghosts S → S → S → Option GivenPlaces → Reading ProblemIs
+ReadsPlaced source old new places (Ok problem) =
+    IsRead placed_texts source old new (record { problem = problem; places = places })
+ReadsPlaced source old new places (Err f) = Reads placed_texts faults.Problem source old new (Err f)
 
 -- nothing, the cities of a tour, or routes and their cost
 pub data Claim : Type 0 where
@@ -66,9 +78,15 @@ pub data Output : Type 0 where
   Drawn : (picture : List ℕ) → Output
   Refused : (line : List ℕ) → Output
 
-abbrev pub places_in : WeightsAre → List Point
-places_in (value.Points kind places) = places
-places_in (value.Lower weights) = []
+-- the places of the cities in a picture: those that the distances depend on, otherwise those that the text gives
+abbrev pub drawn_places : WeightsAre → Option GivenPlaces → List Point
+drawn_places (value.Points kind points) places = points
+drawn_places (value.Lower weights) (Some given) = given.points
+drawn_places (value.Lower weights) None = []
+
+-- the section that gives the places, if the distances do not depend on them
+abbrev pub origin_of : Option GivenPlaces → Option PlacesOrigin
+origin_of places = option_map (λ given. given.origin) places
 
 -- the demands of the nodes; empty without a routing
 abbrev pub demands_in : Option RoutingIs → List ℕ
@@ -76,47 +94,55 @@ demands_in None = []
 demands_in (Some r) = r.demand
 
 -- a picture of a problem in a format: its cities, the lines through them, its depot and its demands
-pub record IsPicture (form : OutputFormat) (p : ProblemIs) (drawing : Drawing) (text : List ℕ) : Type 0 where
+pub record IsPicture (form : OutputFormat) (places : Option GivenPlaces) (p : ProblemIs) (drawing : Drawing)
+    (text : List ℕ) : Type 0 where
   pub extent : Extent
-  pub is_extent : IsExtent (places_in p.weights) extent
-  pub is : text ≡ form_text form extent (places_in p.weights) p.name drawing (option_map (λ r. r.depot) p.routing)
-      (demands_in p.routing)
+  pub is_extent : IsExtent (drawn_places p.weights places) extent
+  pub is : text ≡ form_text form extent (drawn_places p.weights places) p.name (origin_of places) drawing
+      (option_map (λ r. r.depot) p.routing) (demands_in p.routing)
 
 -- a tour is drawn, or rejected with the line of its verdict
-abbrev pub IsTourOutput : OutputFormat → ProblemIs → List ℕ → Verdict → Output → Type 0
-IsTourOutput form p cities verdicts.Tour (Drawn text) =
-    IsPicture form p (ATour cities (tour_length (read_distance p.weights) cities)) text
-IsTourOutput form p cities verdicts.Tour (Refused line) = ⊥
-IsTourOutput form p cities verdict (Drawn text) = ⊥
-IsTourOutput form p cities verdict (Refused line) = line ≡ verdict_line p.n (read_distance p.weights) cities verdict
+abbrev pub IsTourOutput : OutputFormat → Option GivenPlaces → ProblemIs → List ℕ → Verdict → Output → Type 0
+IsTourOutput form places p cities verdicts.Tour (Drawn text) =
+    IsPicture form places p (ATour cities (tour_length (read_distance p.weights) cities)) text
+IsTourOutput form places p cities verdicts.Tour (Refused line) = ⊥
+IsTourOutput form places p cities verdict (Drawn text) = ⊥
+IsTourOutput form places p cities verdict (Refused line) =
+    line ≡ verdict_line p.n (read_distance p.weights) cities verdict
 
 -- routes are drawn, or rejected with the line of their verdict
-abbrev pub IsRouteOutput : OutputFormat → ProblemIs → Instance → List (List ℕ) → RouteVerdict → Output → Type 0
-IsRouteOutput form p i routes (route_verdicts.Valid count cost) (Drawn text) =
-    IsPicture form p (SomeRoutes i routes count (unsigned_abs cost)) text
-IsRouteOutput form p i routes (route_verdicts.Valid count cost) (Refused line) = ⊥
-IsRouteOutput form p i routes verdict (Drawn text) = ⊥
-IsRouteOutput form p i routes verdict (Refused line) = line ≡ route_verdict_line verdict
+abbrev pub IsRouteOutput : OutputFormat → Option GivenPlaces → ProblemIs → Instance → List (List ℕ) → RouteVerdict →
+    Output → Type 0
+IsRouteOutput form places p i routes (route_verdicts.Valid count cost) (Drawn text) =
+    IsPicture form places p (SomeRoutes i routes count (unsigned_abs cost)) text
+IsRouteOutput form places p i routes (route_verdicts.Valid count cost) (Refused line) = ⊥
+IsRouteOutput form places p i routes verdict (Drawn text) = ⊥
+IsRouteOutput form places p i routes verdict (Refused line) = line ≡ route_verdict_line verdict
 
 -- what was drawn, with the true verdict on the tour or the routes
-abbrev pub IsPlot : OutputFormat → ProblemIs → Claim → Plotted → Output → Type 0
-IsPlot form p Nothing plotted.Cities (Drawn text) = IsPicture form p Cities text
-IsPlot form p (TourClaim cities) (plotted.Tour verdict) output =
-    IsVerdict p.n cities verdict × IsTourOutput form p cities verdict output
-IsPlot form p (RoutesClaim s) (plotted.Routes verdict) output =
+abbrev pub IsPlot : OutputFormat → Option GivenPlaces → ProblemIs → Claim → Plotted → Output → Type 0
+IsPlot form places p Nothing plotted.Cities (Drawn text) = IsPicture form places p Cities text
+IsPlot form places p (TourClaim cities) (plotted.Tour verdict) output =
+    IsVerdict p.n cities verdict × IsTourOutput form places p cities verdict output
+IsPlot form places p (RoutesClaim s) (plotted.Routes verdict) output =
     IsSomeAnd p.routing (λ r. IsRouteVerdict (instance_in p r) s.0 s.1 verdict
-    × IsRouteOutput form p (instance_in p r) s.0 verdict output)
-IsPlot form p _ _ _ = ⊥
+    × IsRouteOutput form places p (instance_in p r) s.0 verdict output)
+IsPlot form places p _ _ _ = ⊥
 
--- a problem with explicit weights has no points to draw
-abbrev pub without_places : WeightsAre → Option Fault
-without_places (value.Points kind places) = None
-without_places (value.Lower weights) = Some NoPlaces
+-- a problem with explicit weights cannot be drawn if its text does not give places
+abbrev pub without_places : WeightsAre → Option GivenPlaces → Option Fault
+without_places (value.Points kind points) places = None
+without_places (value.Lower weights) (Some given) = None
+without_places (value.Lower weights) None = Some NoPlaces
 
 -- the task of drawing; only the check of a second text takes memory
-abbrev pub plot_task : OutputFormat → Bool → Task Claim Plotted Output
-plot_task form given =
-    record { misfit = λ p. without_places p.weights; IsClash = NoClash; takes_memory = given; Gives = IsPlot form }
+abbrev pub plot_task : OutputFormat → Option GivenPlaces → Bool → Task Claim Plotted Output
+plot_task form places given = record {
+  misfit = λ p. without_places p.weights places;
+  IsClash = NoClash;
+  takes_memory = given;
+  Gives = IsPlot form places;
+}
 
 -- the two sinks
 module _ {W T : Type 0} (outs : sinks.Ghosts W) (reports : sinks.Ghosts T) (out out' : W) (reported reported' : T) where
@@ -134,9 +160,11 @@ module _ {W T : Type 0} (outs : sinks.Ghosts W) (reports : sinks.Ghosts T) (out 
 -- how drawing ends, given the two sources and the two sinks before and after it
 abbrev pub Plots : {P C W T : Type 0} → sources.Ghosts P → sources.Ghosts C → sinks.Ghosts W → sinks.Ghosts T →
     OutputFormat → Bool → P × C × W × T → P × C × W × T → Result Plotted Fault → Type 0
-Plots problems claims outs reports form given (problem, claim, out, reported) (problem', claim', out', reported') =
-    EndsByProblem (plot_task form given) (ReadsProblem problems problem problem')
-    (ReadsClaim given claims claim claim') (WritesOutput outs reports out out' reported reported')
+Plots problems claims outs reports form given (problem, claim, out, reported) (problem', claim', out', reported') result
+    =
+    (places : Option GivenPlaces)
+    × EndsByProblem (plot_task form places given) (ReadsPlaced problems problem problem' places)
+    (ReadsClaim given claims claim claim') (WritesOutput outs reports out out' reported reported') result
 
 -- a write to one of two sinks failed
 abbrev pub HasFailed : Bool → Bool → Type 0
@@ -146,8 +174,9 @@ HasFailed out reported = (out ≡ true) ⊎ (reported ≡ true)
 
 -- how drawing the second text ends, given its source and the two sinks before and after it
 pub record PlotsClaim {C W T : Type 0} (claims : sources.Ghosts C) (outs : sinks.Ghosts W) (reports : sinks.Ghosts T)
-    (form : OutputFormat) (problem : ProblemIs) (old new : C × W × T) (result : Result Plotted Fault) : Type 0 where
-  pub ends : EndsByProblem (plot_task form true) (HasRead problem) (ReadsClaim true claims old.0 new.0)
+    (form : OutputFormat) (places : Option GivenPlaces) (problem : ProblemIs) (old new : C × W × T)
+    (result : Result Plotted Fault) : Type 0 where
+  pub ends : EndsByProblem (plot_task form places true) (HasRead problem) (ReadsClaim true claims old.0 new.0)
       (WritesOutput outs reports old.1 new.1 old.2 new.2) result
   pub quiet : IfErr result (UnlessWrite (AreUntouched outs reports old.1 new.1 old.2 new.2))
   pub failed : IfErr result (AtWrite (IsBroken outs new.1 ⊎ IsBroken reports new.2))
@@ -156,9 +185,15 @@ pub record PlotsClaim {C W T : Type 0} (claims : sources.Ghosts C) (outs : sinks
 abbrev pub WritesSome : {T : Type 0} → (T → Type 0) → (T → Type 0) → Type 0
 WritesSome {T} Fits Written = (output : T) × (Fits output × Written output)
 
+-- the points of the cities of a problem in a picture
+pub record ArePointsOf (places : Option GivenPlaces) (p : ProblemIs) (points : List Point) : Type 0 where
+  pub are : points ≡ drawn_places p.weights places
+  pub fits : without_places p.weights places ≡ None
+  pub size : length points ≡ p.n
+
 -- a view of the cities of a problem
-pub record IsViewOf (p : ProblemIs) (v : View) : Type 0 where
-  pub places : places_of v.places ≡ places_in p.weights
+pub record IsViewOf (places : Option GivenPlaces) (p : ProblemIs) (v : View) : Type 0 where
+  pub points : places_of v.places ≡ drawn_places p.weights places
   pub extent : IsExtent (places_of v.places) v.extent
-  pub fits : without_places p.weights ≡ None
+  pub fits : without_places p.weights places ≡ None
   pub size : length (places_of v.places) ≡ p.n

@@ -2,3 +2,4 @@
 pub mod drawn;
 pub mod given;
 pub mod paged;
+pub mod placed;

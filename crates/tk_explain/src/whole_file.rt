@@ -6,10 +6,14 @@ use crate::page::{CAUSES, MEANING, Page, READ, REMEDY, WANTED};
 use crate::read_result::ReadResult;
 use crate::remark::remark_on;
 use crate::valid::Valid;
+use crate::whole::Whole;
 use std::alloc::{AllocError, Global};
 use std::fmt;
 use tk_diagnosis::{Diagnosis, FileFault, LineContext, Remark, diagnosis_at, shown_line, wrapped};
 use tk_kinds::{Kind, kind_of, wrapping_of};
+use tk_problem::Weights;
+use tk_problem_text::read_placed_problem;
+use tk_words::TextKind;
 
 /// A file that is explained.
 #[derive(Clone, Copy)]
@@ -58,7 +62,32 @@ pub fn add_sound(page: &mut Page, file: &File<'_>, sound: &Valid) -> Result<(), 
     let name = file.name;
     let what = sound.sentence();
     page.line(&format_args!("{name} has no fault: it is {what}."))?;
-    page.line(&use_of(file.kind))
+    page.line(&use_of(file.kind))?;
+    if has_explicit_weights(sound) {
+        add_display(page, file)?;
+    }
+    Ok(())
+}
+
+/// Whether a file is a problem with explicit weights.
+fn has_explicit_weights(sound: &Valid) -> bool {
+    match sound {
+        Valid::Problem(problem) => matches!(problem.weights, Weights::Lower(_)),
+        _ => false,
+    }
+}
+
+/// Adds the fault of the display data of a problem, which only `plot` reports, if there is one.
+fn add_display(page: &mut Page, file: &File<'_>) -> Result<(), AllocError> {
+    match read_placed_problem(file.alloc, &mut Whole { bytes: file.text }) {
+        Ok(_) => Ok(()),
+        Err(fault) if fault.kind == TextKind::NoMemory => Err(AllocError),
+        Err(fault) => {
+            page.line(&"But tourkit plot cannot draw it, because its display data have a fault:")?;
+            page.line(&"")?;
+            add_fault(page, file, &FileFault::Text(fault))
+        }
+    }
 }
 
 /// Adds a summary of a file without a fault, the line that a remark is about, and what to do.

@@ -21,8 +21,9 @@ use Rattle.tk_picture.specs.declared.picture.OutputFormat.{OutputFormat}
 use Rattle.tk_picture.specs.declared.picture.OutputFormat.TheVariants as forms
 use Rattle.tk_picture.specs.declared.picture.Picture.{Picture}
 use Rattle.tk_picture.specs.declared.subject.Subject.{Subject}
+use Rattle.tk_problem_text.specs.declared.placed_problem.PlacesOrigin.{PlacesOrigin}
 use Rattle.tk_picture.specs.declared.subject.Subject.TheVariants as subjects
-use Rattle.tk_picture.specs.Drawings.{Drawing, Path, caption_of, each_filled, paths_of}
+use Rattle.tk_picture.specs.Drawings.{Drawing, Path, caption, each_filled, paths_of}
 use Rattle.tk_picture.specs.Names.{shown_name}
 use Rattle.tk_picture.specs.PageText.{Row, data_block, city_line, demand_word, depot_word, page_ending, heading}
 use Rattle.tk_picture.specs.PageText.{legs, legs_block, legs_line, opening, route_legs}
@@ -49,28 +50,29 @@ length_heading name named =
           (omega arith) (omega arith),
     )
 
-length_verdict : (n : ℕ) (d : Drawing) → length (verdict n d) ≤ 301
-length_verdict n d =
+length_verdict : (origin : Option PlacesOrigin) (n : ℕ) (d : Drawing) → length (verdict origin n d) ≤ 351
+length_verdict origin n d =
     omega (
       arith,
-      length_caption n d,
-      around (codes "<p id=\"verdict\">") (caption_of n d) (codes "</p>") (omega arith)
+      length_caption origin n d,
+      around (codes "<p id=\"verdict\">") (caption origin n d) (codes "</p>") (omega arith)
           (omega arith),
     )
 
-length_opening : (parts : Parts) (name : List ℕ) (n : ℕ) (d : Drawing) → length name ≤ 1024 →
-    length (opening parts name n d) ≤ 30000000
-length_opening parts name n d named =
-    let all = length_joined parts.head.now (parts.style.now ∷ line (codes "</style>") ∷ title_line (title name n d)
-    ∷ line (codes "<body>") ∷ heading name ∷ verdict n d ∷ line (codes "<div id=\"stage\">") ∷ []) in
+length_opening : (parts : Parts) (name : List ℕ) (origin : Option PlacesOrigin) (n : ℕ) (d : Drawing)
+    → length name ≤ 1024 → length (opening parts name origin n d) ≤ 30000000
+length_opening parts name origin n d named =
+    let all = length_joined parts.head.now (parts.style.now ∷ line (codes "</style>")
+    ∷ title_line (title name origin n d) ∷ line (codes "<body>") ∷ heading name ∷ verdict origin n d
+    ∷ line (codes "<div id=\"stage\">") ∷ []) in
     omega (
       arith,
       parts.head_short,
       parts.style_short,
-      length_title_line (title name n d),
-      length_title name n d named,
+      length_title_line (title name origin n d),
+      length_title name origin n d named,
       length_heading name named,
-      length_verdict n d,
+      length_verdict origin n d,
     )
 
 -- ---- the table
@@ -210,21 +212,21 @@ length_ending parts =
     (line (codes "<script>") ∷ parts.script.now ∷ line (codes "</script>") ∷ []) in
     omega (arith, parts.tools_short, parts.script_short)
 
-length_page : (parts : Parts) (f : Extent) (places : List Point) (name : List ℕ) (s : Subject) (depot : Option ℕ)
-    (demands : List ℕ) → length name ≤ 1024 → length places ≤ CITY_LIMIT
+length_page : (parts : Parts) (f : Extent) (places : List Point) (name : List ℕ) (origin : Option PlacesOrigin)
+    (s : Subject) (depot : Option ℕ) (demands : List ℕ) → length name ≤ 1024 → length places ≤ CITY_LIMIT
     → Fits (length places) s → length (paths_of (drawing_of s)) ≤ 100001 → corners_of (paths_of (drawing_of s)) ≤ 200000
-    → length (page_text parts f places name (drawing_of s) depot demands) ≤ 1000000000
-length_page parts f places name s depot demands named few fits lines corners =
+    → length (page_text parts f places name origin (drawing_of s) depot demands) ≤ 1000000000
+length_page parts f places name origin s depot demands named few fits lines corners =
     let d = drawing_of s in
     let n = length places in
     let city = city_line f places demands depot in
     let cities = flat_map city (range_with_len 1 n) in
     let paths = flat_map path_line (paths_of d) in
-    let all = length_joined (opening parts name n d) (picture_text f places name d depot ∷ line (codes "</div>")
-    ∷ table d ∷ data_block (codes "cities") cities ∷ data_block (codes "paths") paths ∷ legs_block d
-    ∷ page_ending parts ∷ []) in
-    let p = length_opening parts name n d named in
-    let q = length_picture f places name d depot named few lines corners in
+    let all = length_joined (opening parts name origin n d) (picture_text f places name origin d depot
+    ∷ line (codes "</div>") ∷ table d ∷ data_block (codes "cities") cities ∷ data_block (codes "paths") paths
+    ∷ legs_block d ∷ page_ending parts ∷ []) in
+    let p = length_opening parts name origin n d named in
+    let q = length_picture f places name origin d depot named few lines corners in
     let r = length_table n s few fits in
     let t = length_block (codes "cities") cities (omega arith) in
     let u = length_flat_map city 400 (length_city f places demands depot) (range_with_len 1 n) in
@@ -242,13 +244,13 @@ length_form forms.Svg p named fits =
     let few = paths_few (length (places_of p.view.places)) p.subject fits in
     omega (
       arith,
-      length_picture p.view.extent (places_of p.view.places) p.name.now (drawing_of p.subject) p.depot named
-          p.view.few (omega (arith, few.0, p.view.few)) (omega (arith, few.1, p.view.few)),
+      length_picture p.view.extent (places_of p.view.places) p.name.now p.origin (drawing_of p.subject) p.depot
+          named p.view.few (omega (arith, few.0, p.view.few)) (omega (arith, few.1, p.view.few)),
     )
 length_form (forms.Page parts) p named fits =
     let few = paths_few (length (places_of p.view.places)) p.subject fits in
     omega (
       arith,
-      length_page parts p.view.extent (places_of p.view.places) p.name.now p.subject p.depot p.demands.now
+      length_page parts p.view.extent (places_of p.view.places) p.name.now p.origin p.subject p.depot p.demands.now
           named p.view.few fits (omega (arith, few.0, p.view.few)) (omega (arith, few.1, p.view.few)),
     )

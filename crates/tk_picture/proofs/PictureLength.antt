@@ -16,8 +16,8 @@ use Rattle.tk_routes.specs.Cvrps.{instance_of}
 use Rattle.tk_routes.specs.Instance.{Instance, customer_count, node_of}
 use Rattle.tk_routes.proofs.ServedCustomers.{AreServedOnce-short}
 use Rattle.tk_picture.specs.Colours.{colour, first_colours, place_on_walk, rgb, colour_walk}
-use Rattle.tk_picture.specs.Drawings.{ATour, Cities, Drawing, Path, SomeRoutes, caption_of, each_filled, paths_of}
-use Rattle.tk_picture.specs.Drawings.{route_path, route_paths}
+use Rattle.tk_picture.specs.Drawings.{ATour, Cities, Drawing, Path, SomeRoutes, caption, caption_of, each_filled}
+use Rattle.tk_picture.specs.Drawings.{origin_words, paths_of, route_path, route_paths}
 use Rattle.tk_picture.specs.declared.colour.Colour.{Colour}
 use Rattle.tk_picture.specs.declared.extent.Extent.{Extent}
 use Rattle.tk_picture.specs.declared.subject.Subject.{Subject}
@@ -35,6 +35,8 @@ use Rattle.tk_picture.specs.declared.part.Part.{Part}
 use Rattle.tk_picture.specs.declared.part.Part.TheVariants as parts
 use Rattle.tk_distance.specs.PlaneOf.{city_place}
 use Rattle.tk_problem.specs.declared.point.Point.{Point}
+use Rattle.tk_problem_text.specs.declared.placed_problem.PlacesOrigin.{PlacesOrigin}
+use Rattle.tk_problem_text.specs.declared.placed_problem.PlacesOrigin.TheVariants.{DisplayData, NodeCoordinates}
 
 -- a text, and pieces after it
 abbrev pub joined : List ℕ → List (List ℕ) → List ℕ
@@ -115,20 +117,30 @@ length_name name short =
       lossy_short name short,
     )
 
-pub length_caption : (n : ℕ) (d : Drawing) → length (caption_of n d) ≤ 200
-length_caption n Cities = omega (arith, length_decimal n, length-append (decimal n) (codes " cities"))
-length_caption n (ATour cities size) = let a = length_decimal n in let b = length_decimal size in
+length_subject : (n : ℕ) (d : Drawing) → length (caption_of n d) ≤ 200
+length_subject n Cities = omega (arith, length_decimal n, length-append (decimal n) (codes " cities"))
+length_subject n (ATour cities size) = let a = length_decimal n in let b = length_decimal size in
     simp length-append (omega arith)
-length_caption n (SomeRoutes i routes count cost) = let a = length_decimal count in let b = length_decimal cost in
+length_subject n (SomeRoutes i routes count cost) = let a = length_decimal count in let b = length_decimal cost in
     simp length-append (omega arith)
 
-pub length_title : (name : List ℕ) (n : ℕ) (d : Drawing) → length name ≤ 1024 → length (title name n d) ≤ 12000202
-length_title name n d short =
+length_origin : (origin : Option PlacesOrigin) → length (origin_words origin) ≤ 50
+length_origin None = omega arith
+length_origin (Some DisplayData) = omega arith
+length_origin (Some NodeCoordinates) = omega arith
+
+pub length_caption : (origin : Option PlacesOrigin) (n : ℕ) (d : Drawing) → length (caption origin n d) ≤ 250
+length_caption origin n d =
+    omega (arith, length_subject n d, length_origin origin, length-append (caption_of n d) (origin_words origin))
+
+pub length_title : (name : List ℕ) (origin : Option PlacesOrigin) (n : ℕ) (d : Drawing) → length name ≤ 1024 →
+    length (title name origin n d) ≤ 12000252
+length_title name origin n d short =
     omega (
       arith,
       length_name name short,
-      length_caption n d,
-      length_joined (shown_name name) (codes ": " ∷ caption_of n d ∷ []),
+      length_caption origin n d,
+      length_joined (shown_name name) (codes ": " ∷ caption origin n d ∷ []),
     )
 
 -- ---- lines
@@ -383,19 +395,20 @@ paths_few n (subjects.Routes cvrp routes count cost) fits =
     let served = AreServedOnce-short (customer_count i) (concat all) fits.1 in
     (omega (arith, fits.0, served, filled_few (route_path i) 1 all), omega (arith, fits.0, served, corners_few i 1 all))
 
-pub length_picture : (f : Extent) (places : List Point) (name : List ℕ) (d : Drawing) (depot : Option ℕ)
+pub length_picture : (f : Extent) (places : List Point) (name : List ℕ) (origin : Option PlacesOrigin) (d : Drawing)
+    (depot : Option ℕ)
     → length name ≤ 1024 → length places ≤ CITY_LIMIT
     → length (paths_of d) ≤ 100001 → corners_of (paths_of d) ≤ 200000 →
-    length (picture_text f places name d depot) ≤ 500000000
-length_picture f places name d depot named few few_lines few_corners =
+    length (picture_text f places name origin d depot) ≤ 500000000
+length_picture f places name origin d depot named few few_lines few_corners =
     let at = spot f places in
     let short = length_spot f places in
     let n = length places in
     let end : length tail ≤ 20 = omega arith in
-    let all = length_joined (head f (title name n d) n) (lines at n d ∷ city_dots at n d ∷ route_numbers at n d
+    let all = length_joined (head f (title name origin n d) n) (lines at n d ∷ city_dots at n d ∷ route_numbers at n d
     ∷ depot_mark at depot ∷ tail ∷ []) in
-    let h = length_head f (title name n d) n in
-    let t = length_title name n d named in
+    let h = length_head f (title name origin n d) n in
+    let t = length_title name origin n d named in
     let l = length_lines at short n d in
     let p = length_city_dots at short n d in
     let m = length_depot_mark at short depot in

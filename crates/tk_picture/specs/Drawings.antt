@@ -2,10 +2,13 @@
 --     Drawing      only the cities, a tour, or routes
 --     each_filled f k routes      the results of f for the routes that have a customer
 --     paths_of drawing      its closed lines, each with its number
---     caption_of n drawing      its description in the title
-use Rattle.std.specs.Prelude.{ℕ, ◌+◌, List, [], ◌∷◌, ◌++◌, codes, decimal}
+--     caption_of n drawing      its description
+--     caption origin n drawing      its description in the title, which ends with the origin of the places
+use Rattle.std.specs.Prelude.{ℕ, ◌+◌, List, [], ◌∷◌, ◌++◌, Option, Some, None, codes, decimal}
 use Rattle.tk_routes.specs.Instance.{Instance}
 use Rattle.tk_routes.specs.Routes.{route_nodes}
+use Rattle.tk_problem_text.specs.declared.placed_problem.PlacesOrigin.{PlacesOrigin}
+use Rattle.tk_problem_text.specs.declared.placed_problem.PlacesOrigin.TheVariants.{DisplayData, NodeCoordinates}
 
 -- only the cities; a tour of this length; routes of an instance, with the number of those that have a customer, and
 -- their cost
@@ -42,3 +45,16 @@ abbrev pub caption_of : ℕ → Drawing → List ℕ
 caption_of n Cities = decimal n ++ codes " cities"
 caption_of n (ATour cities length) = codes "tour of " ++ decimal n ++ codes " cities, length " ++ decimal length
 caption_of n (SomeRoutes i routes count cost) = decimal count ++ codes " routes, cost " ++ decimal cost
+
+-- the section whose places are drawn
+abbrev pub section_words : PlacesOrigin → List ℕ
+section_words DisplayData = codes ", places: display data of the file"
+section_words NodeCoordinates = codes ", places: node coordinates of the file"
+
+-- the section whose places are drawn, if the distances do not depend on them
+abbrev pub origin_words : Option PlacesOrigin → List ℕ
+origin_words None = []
+origin_words (Some origin) = section_words origin
+
+abbrev pub caption : Option PlacesOrigin → ℕ → Drawing → List ℕ
+caption origin n drawing = caption_of n drawing ++ origin_words origin

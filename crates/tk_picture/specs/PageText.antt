@@ -4,19 +4,20 @@
 --     path_line path      the cities of a closed line
 --     route_row i k route      the table row of a route
 --     legs_line words      the number of a route, and the lengths of its legs
---     page_text parts f places name drawing depot demands      the whole text
+--     page_text parts f places name origin drawing depot demands      the whole text
 use Rattle.std.specs.Prelude.{ℕ, ◌-◌, ◌*◌, ◌/◌, ◌==◌, List, [], ◌∷◌, ◌++◌, Option, Some, None, length, slice_get}
 use Rattle.std.specs.Prelude.{map, flat_map, codes, decimal, if◌then◌else◌}
 use Rattle.std.specs.List.{range_with_len}
 use Rattle.std.specs.Fmt.{signed_decimal}
 use Rattle.tk_problem.specs.declared.point.Point.{Point}
+use Rattle.tk_problem_text.specs.declared.placed_problem.PlacesOrigin.{PlacesOrigin}
 use Rattle.tk_writers.specs.Written.{line, spaced_numbers}
 use Rattle.tk_distance.specs.PlaneOf.{city_place}
 use Rattle.tk_routes.specs.Instance.{Instance, node_of}
 use Rattle.tk_routes.specs.Routes.{route_length, route_load}
 use Rattle.tk_picture.specs.declared.extent.Extent.{Extent}
 use Rattle.tk_picture.specs.declared.page.parts.Parts.{Parts}
-use Rattle.tk_picture.specs.Drawings.{Drawing, Path, SomeRoutes, caption_of, each_filled, paths_of}
+use Rattle.tk_picture.specs.Drawings.{Drawing, Path, SomeRoutes, caption, each_filled, paths_of}
 use Rattle.tk_picture.specs.Names.{shown_name}
 use Rattle.tk_picture.specs.PictureText.{picture_text, spot, title, title_line}
 
@@ -26,13 +27,13 @@ abbrev pub heading : List ℕ → List ℕ
 heading name = line (codes "<h1><bdi>" ++ shown_name name ++ codes "</bdi></h1>")
 
 -- the caption of the picture, in the words that the checks print
-abbrev pub verdict : ℕ → Drawing → List ℕ
-verdict n drawing = line (codes "<p id=\"verdict\">" ++ caption_of n drawing ++ codes "</p>")
+abbrev pub verdict : Option PlacesOrigin → ℕ → Drawing → List ℕ
+verdict origin n drawing = line (codes "<p id=\"verdict\">" ++ caption origin n drawing ++ codes "</p>")
 
-abbrev pub opening : Parts → List ℕ → ℕ → Drawing → List ℕ
-opening parts name n drawing =
-    parts.head.now ++ parts.style.now ++ line (codes "</style>") ++ title_line (title name n drawing)
-    ++ line (codes "<body>") ++ heading name ++ verdict n drawing ++ line (codes "<div id=\"stage\">")
+abbrev pub opening : Parts → List ℕ → Option PlacesOrigin → ℕ → Drawing → List ℕ
+opening parts name origin n drawing =
+    parts.head.now ++ parts.style.now ++ line (codes "</style>") ++ title_line (title name origin n drawing)
+    ++ line (codes "<body>") ++ heading name ++ verdict origin n drawing ++ line (codes "<div id=\"stage\">")
 
 -- ---- the table of routes
 
@@ -150,10 +151,11 @@ legs_block _ = []
 abbrev pub page_ending : Parts → List ℕ
 page_ending parts = parts.tools.now ++ line (codes "<script>") ++ parts.script.now ++ line (codes "</script>")
 
-abbrev pub page_text : Parts → Extent → List Point → List ℕ → Drawing → Option ℕ → List ℕ → List ℕ
-page_text parts f places name drawing depot demands =
-    opening parts name (length places) drawing
-    ++ picture_text f places name drawing depot ++ line (codes "</div>")
+abbrev pub page_text : Parts → Extent → List Point → List ℕ → Option PlacesOrigin → Drawing → Option ℕ → List ℕ →
+    List ℕ
+page_text parts f places name origin drawing depot demands =
+    opening parts name origin (length places) drawing
+    ++ picture_text f places name origin drawing depot ++ line (codes "</div>")
     ++ table drawing
     ++ data_block (codes "cities") (flat_map (city_line f places demands depot) (range_with_len 1 (length places)))
     ++ data_block (codes "paths") (flat_map path_line (paths_of drawing))

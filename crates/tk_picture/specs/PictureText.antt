@@ -5,23 +5,24 @@
 --     lines spot n drawing      all lines; the lines to and from the depot are pale if there are many routes
 --     dots spot style cities      cities as points
 --     route_numbers spot n drawing      the number of each route, over its first customer
---     picture_text f places name drawing depot      the whole text
+--     picture_text f places name origin drawing depot      the whole text
 use Rattle.std.specs.Prelude.{ℕ, ◌-◌, Bool, true, nat_lt, List, [], ◌∷◌, ◌++◌, Option, Some, None, length, drop}
 use Rattle.std.specs.Prelude.{slice_index, flat_map, codes, decimal, if◌then◌else◌}
 use Rattle.std.specs.List.{range_with_len}
 use Rattle.tk_problem.specs.declared.point.Point.{Point}
+use Rattle.tk_problem_text.specs.declared.placed_problem.PlacesOrigin.{PlacesOrigin}
 use Rattle.tk_writers.specs.Written.{line}
 use Rattle.tk_distance.specs.PlaneOf.{city_place}
 use Rattle.tk_picture.specs.Colours.{colour}
-use Rattle.tk_picture.specs.Drawings.{Cities, Drawing, Path, SomeRoutes, caption_of, paths_of, route_paths}
+use Rattle.tk_picture.specs.Drawings.{Cities, Drawing, Path, SomeRoutes, caption, paths_of, route_paths}
 use Rattle.tk_picture.specs.declared.part.Part.{Part}
 use Rattle.tk_picture.specs.declared.part.Part.TheVariants as parts
 use Rattle.tk_picture.specs.declared.extent.Extent.{Extent}
 use Rattle.tk_picture.specs.Extents.{across, down, drawn_from_left, drawn_from_top, view_height}
 use Rattle.tk_picture.specs.Names.{shown_name}
 
-abbrev pub title : List ℕ → ℕ → Drawing → List ℕ
-title name n drawing = shown_name name ++ codes ": " ++ caption_of n drawing
+abbrev pub title : List ℕ → Option PlacesOrigin → ℕ → Drawing → List ℕ
+title name origin n drawing = shown_name name ++ codes ": " ++ caption origin n drawing
 
 -- the position of a city
 abbrev pub spot : Extent → List Point → ℕ → List ℕ
@@ -189,9 +190,9 @@ abbrev pub tail : List ℕ
 tail = line (codes "</g>") ++ line (codes "</svg>")
 
 -- a title, lines through cities, the cities, the numbers of routes, and the depot
-abbrev pub picture_text : Extent → List Point → List ℕ → Drawing → Option ℕ → List ℕ
-picture_text f places name drawing depot =
-    head f (title name (length places) drawing) (length places)
+abbrev pub picture_text : Extent → List Point → List ℕ → Option PlacesOrigin → Drawing → Option ℕ → List ℕ
+picture_text f places name origin drawing depot =
+    head f (title name origin (length places) drawing) (length places)
     ++ lines (spot f places) (length places) drawing
     ++ city_dots (spot f places) (length places) drawing
     ++ route_numbers (spot f places) (length places) drawing

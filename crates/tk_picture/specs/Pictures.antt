@@ -2,6 +2,7 @@
 use Rattle.std.specs.Prelude.{ℕ, List, Option, map}
 use Rattle.tk_problem.specs.declared.point.Point.{Point}
 use Rattle.tk_problem.specs.PlacesOf.{places_of}
+use Rattle.tk_problem_text.specs.declared.placed_problem.PlacesOrigin.{PlacesOrigin}
 use Rattle.tk_tour.specs.Tour.{IsTour}
 use Rattle.tk_routes.specs.Cvrps.{instance_of}
 use Rattle.tk_picture.specs.Drawings.{ATour, Cities, Drawing, SomeRoutes}
@@ -29,13 +30,16 @@ Fits n (subjects.Tour cities length) = IsTour n cities.now
 Fits n (subjects.Routes cvrp routes count cost) = RoutesFit n cvrp routes.now
 
 -- the text of a drawing, in a format
-abbrev pub form_text : OutputFormat → Extent → List Point → List ℕ → Drawing → Option ℕ → List ℕ → List ℕ
-form_text forms.Svg f places name drawing depot demands = picture_text f places name drawing depot
-form_text (forms.Page parts) f places name drawing depot demands = page_text parts f places name drawing depot demands
+abbrev pub form_text : OutputFormat → Extent → List Point → List ℕ → Option PlacesOrigin → Drawing → Option ℕ →
+    List ℕ → List ℕ
+form_text forms.Svg f places name origin drawing depot demands = picture_text f places name origin drawing depot
+form_text (forms.Page parts) f places name origin drawing depot demands =
+    page_text parts f places name origin drawing depot demands
 
 abbrev pub text_in : OutputFormat → Picture → List ℕ
 text_in form p =
-    form_text form p.view.extent (places_of p.view.places) p.name.now (drawing_of p.subject) p.depot p.demands.now
+    form_text form p.view.extent (places_of p.view.places) p.name.now p.origin (drawing_of p.subject) p.depot
+    p.demands.now
 
 abbrev pub text_of : Picture → List ℕ
 text_of p = text_in forms.Svg p

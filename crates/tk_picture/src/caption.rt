@@ -1,7 +1,7 @@
 //! The title of a picture.
 ghost use Rattle.std.specs.Prelude.{◌++◌, codes, decimal};
 ghost use Rattle.tk_writers.specs.Pens.{Puts};
-ghost use Rattle.tk_picture.specs.Drawings.{caption_of};
+ghost use Rattle.tk_picture.specs.Drawings.{caption, caption_of, origin_words, section_words};
 ghost use Rattle.tk_picture.specs.PictureText.{title};
 ghost use Rattle.tk_picture.specs.Pictures.{drawing_of};
 ghost use Rattle.tk_picture.specs.Views.{city_count};
@@ -9,6 +9,7 @@ ghost use Rattle.tk_picture.specs.Views.{city_count};
 use crate::name::put_name;
 use crate::picture::Picture;
 use crate::subject::Subject;
+use tk_problem_text::PlacesOrigin;
 use tk_writers::{Pen, Sink};
 
 /// Writes the number of cities.
@@ -39,8 +40,8 @@ fn put_routes<W: Sink>(pen: &mut Pen<'_, W>, count: u64, cost: u64)
     pen.put_number(cost);
 }
 
-/// Writes the caption of a picture.
-pub(crate) fn put_caption<W: Sink>(pen: &mut Pen<'_, W>, picture: &Picture<'_>)
+/// Writes what is drawn.
+fn put_subject<W: Sink>(pen: &mut Pen<'_, W>, picture: &Picture<'_>)
     ensures { Puts W.Sink pen.old pen.new
         (caption_of (city_count picture.now.view) (drawing_of picture.now.subject)) }
 {
@@ -52,10 +53,38 @@ pub(crate) fn put_caption<W: Sink>(pen: &mut Pen<'_, W>, picture: &Picture<'_>)
     }
 }
 
+/// Writes the section that has the places of the cities.
+fn put_section<W: Sink>(pen: &mut Pen<'_, W>, origin: PlacesOrigin)
+    ensures { Puts W.Sink pen.old pen.new (section_words origin) }
+{
+    match origin {
+        PlacesOrigin::DisplayData => pen.put(b", places: display data of the file"),
+        PlacesOrigin::NodeCoordinates => pen.put(b", places: node coordinates of the file"),
+    }
+}
+
+/// Writes the section that has the places of the cities, if the distances do not depend on them.
+fn put_origin<W: Sink>(pen: &mut Pen<'_, W>, origin: Option<PlacesOrigin>)
+    ensures { Puts W.Sink pen.old pen.new (origin_words origin) }
+{
+    if let Some(origin) = origin {
+        put_section(pen, origin);
+    }
+}
+
+/// Writes the caption of a picture.
+pub(crate) fn put_caption<W: Sink>(pen: &mut Pen<'_, W>, picture: &Picture<'_>)
+    ensures { Puts W.Sink pen.old pen.new
+        (caption picture.now.origin (city_count picture.now.view) (drawing_of picture.now.subject)) }
+{
+    put_subject(pen, picture);
+    put_origin(pen, picture.origin);
+}
+
 /// Writes the title of a picture: its name and its caption.
 pub(crate) fn put_title<W: Sink>(pen: &mut Pen<'_, W>, picture: &Picture<'_>)
     ensures { Puts W.Sink pen.old pen.new
-        (title picture.now.name.now (city_count picture.now.view) (drawing_of picture.now.subject)) }
+        (title picture.now.name.now picture.now.origin (city_count picture.now.view) (drawing_of picture.now.subject)) }
 {
     put_name(pen, picture.name);
     pen.put(b": ");

@@ -34,7 +34,7 @@ fn put_heading<W: Sink>(pen: &mut Pen<'_, W>, name: &[u8])
 /// Writes the caption of the picture, in the words that the checks print.
 fn put_verdict<W: Sink>(pen: &mut Pen<'_, W>, picture: &Picture<'_>)
     ensures { Puts W.Sink pen.old pen.new
-        (verdict (city_count picture.now.view) (drawing_of picture.now.subject)) }
+        (verdict picture.now.origin (city_count picture.now.view) (drawing_of picture.now.subject)) }
 {
     pen.put(b"<p id=\"verdict\">");
     put_caption(pen, picture);
@@ -44,7 +44,7 @@ fn put_verdict<W: Sink>(pen: &mut Pen<'_, W>, picture: &Picture<'_>)
 /// Writes the text before the picture.
 fn put_opening<W: Sink>(pen: &mut Pen<'_, W>, picture: &Picture<'_>, parts: &Parts<'_>)
     ensures { Puts W.Sink pen.old pen.new (opening parts.now picture.now.name.now
-        (city_count picture.now.view) (drawing_of picture.now.subject)) }
+        picture.now.origin (city_count picture.now.view) (drawing_of picture.now.subject)) }
 {
     pen.put(parts.head);
     pen.put(parts.style);

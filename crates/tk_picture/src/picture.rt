@@ -20,12 +20,15 @@ use crate::page::put_page;
 use crate::route_lines::put_route_lines;
 use crate::subject::Subject;
 use crate::view::View;
+use tk_problem_text::PlacesOrigin;
 use tk_writers::{Pen, Sink, WriteFault};
 
 /// A picture of a problem with this name: its cities, closed lines through them, and its depot.
 #[derive(Clone, Copy)]
 pub struct Picture<'a> {
     pub name: &'a [u8],
+    /// The section that has the places of the cities, if the distances do not depend on them.
+    pub origin: Option<PlacesOrigin>,
     pub view: View<'a>,
     pub subject: Subject<'a>,
     pub depot: Option<u32>,
@@ -53,8 +56,8 @@ fn put_view_line<W: Sink>(pen: &mut Pen<'_, W>, height: u128)
 
 /// Writes the line with the title.
 pub(crate) fn put_title_line<W: Sink>(pen: &mut Pen<'_, W>, picture: &Picture<'_>)
-    ensures { Puts W.Sink pen.old pen.new (title_line
-        (title picture.now.name.now (city_count picture.now.view) (drawing_of picture.now.subject))) }
+    ensures { Puts W.Sink pen.old pen.new (title_line (title picture.now.name.now picture.now.origin
+        (city_count picture.now.view) (drawing_of picture.now.subject))) }
 {
     pen.put(b"<title>");
     put_title(pen, picture);
@@ -63,8 +66,8 @@ pub(crate) fn put_title_line<W: Sink>(pen: &mut Pen<'_, W>, picture: &Picture<'_
 
 /// Writes the line with the title that is drawn.
 fn put_heading_line<W: Sink>(pen: &mut Pen<'_, W>, picture: &Picture<'_>)
-    ensures { Puts W.Sink pen.old pen.new (heading_line
-        (title picture.now.name.now (city_count picture.now.view) (drawing_of picture.now.subject))) }
+    ensures { Puts W.Sink pen.old pen.new (heading_line (title picture.now.name.now picture.now.origin
+        (city_count picture.now.view) (drawing_of picture.now.subject))) }
 {
     pen.put(b"<text x=\"20\" y=\"40\" font-family=\"sans-serif\" font-size=\"24\">");
     put_title(pen, picture);
@@ -97,7 +100,7 @@ fn put_group_line<W: Sink>(pen: &mut Pen<'_, W>, extent: &Extent, cities: u32)
 /// Writes the text before the lines and the points.
 fn put_head<W: Sink>(pen: &mut Pen<'_, W>, picture: &Picture<'_>)
     ensures { Puts W.Sink pen.old pen.new (head picture.now.view.extent
-        (title picture.now.name.now (city_count picture.now.view) (drawing_of picture.now.subject))
+        (title picture.now.name.now picture.now.origin (city_count picture.now.view) (drawing_of picture.now.subject))
         (city_count picture.now.view)) }
 {
     put_view_line(pen, picture.view.extent.view_height());

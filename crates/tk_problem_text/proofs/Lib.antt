@@ -5,6 +5,10 @@ pub mod PartHeaders
 pub mod PartSections
 pub mod PartsKept
 pub mod PartsWhole
+pub mod PlacedLaws
+pub mod PlacedPieces
+pub mod PlacedSections
+pub mod PlacedValues
 pub mod ProblemHandlers
 pub mod ProblemLaws
 pub mod ReadNames

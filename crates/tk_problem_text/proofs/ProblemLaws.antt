@@ -24,7 +24,8 @@ use Rattle.tk_problem_text.specs.Sections.FixedSections.{TokenTests, all_tests, 
 
 -- ---- each text has an answer
 
-tokens_known : (tests : TokenTests) (before ts : List Token) → WholeTokens ts → NotOpen (tokens_stop tests before ts)
+pub tokens_known : (tests : TokenTests) (before ts : List Token) → WholeTokens ts →
+    NotOpen (tokens_stop tests before ts)
 unfolding tokens_stop
 tokens_known tests before [] h = tt
 tokens_known tests before (t ∷ ts) h =
@@ -35,12 +36,12 @@ fixed_known : (after : After) → NotOpen (fixed_end after)
 fixed_known (Early line true) = tt
 fixed_known _ = tt
 
-end_known : (word : Keyword) (toks : List Token) (after : After) → NotOpen (section_end word toks after)
+pub end_known : (word : Keyword) (toks : List Token) (after : After) → NotOpen (section_end word toks after)
 end_known words.DepotSection [] after = fixed_known after
 end_known words.DepotSection (t ∷ ts) after = not_open_trailing after
 end_known _ toks after = fixed_known after
 
-entries_known : (word : Keyword) (toks : List Token) → WholeTokens toks → WholeTokens (section_entries word toks)
+pub entries_known : (word : Keyword) (toks : List Token) → WholeTokens toks → WholeTokens (section_entries word toks)
 entries_known words.DepotSection [] h = tt
 entries_known words.DepotSection (t ∷ ts) h = (h.0, whole_entries ts h.1)
 entries_known _ toks h = h
@@ -99,7 +100,7 @@ depot_extends (x ∷ front) last rest end end' h =
     one_extends x (list_extent (front ++ last)) (list_extent (front ++ rest)) (front ++ last) (front ++ rest) end end'
     (list_extends front last rest end end' h)
 
-extends : (before : List Piece) (word : Keyword) (front last rest : List Token) (end end' : Token) → Lasts last rest
+pub extends : (before : List Piece) (word : Keyword) (front last rest : List Token) (end end' : Token) → Lasts last rest
     → Extends (problem_extent before word (front ++ last)) (problem_extent before word (front ++ rest)) (front ++ last)
     (front ++ rest) end end'
 extends before words.DepotSection front last rest end end' h = depot_extends front last rest end end' h
@@ -115,7 +116,7 @@ tokens_as tests before (t ∷ ts) = ap (λ (s : Option Stop). or_else (checked 6
     (tokens_as tests (before ++ t ∷ []) ts)
 
 module _ (tests : TokenTests) (line : ℕ) (k : TextKind) where
-  fixed_stays : (count : ℕ) (front last rest : List Token) → Lasts last rest
+  pub fixed_stays : (count : ℕ) (front last rest : List Token) → Lasts last rest
       → length (front ++ last) ≤ (fixed_extent count (front ++ last)).count
       → tokens_stop tests [] (front ++ last) ≡ Some (Fault line k) →
       tokens_stop tests [] (take (fixed_extent count (front ++ rest)).count (front ++ rest)) ≡ Some (Fault line k)
@@ -148,7 +149,7 @@ module _ (tests : TokenTests) (line : ℕ) (k : TextKind) where
       ∙ list_stops (all_tests tests) (λ before t. before ++ t ∷ []) line k (x ∷ []) front last rest h
       (omega (arith, le)) (sym (tokens_as tests (x ∷ []) old) ∙ s)) f
 
-open_fixed : (after : After) → EndsOpen after → fixed_end after ≡ None
+pub open_fixed : (after : After) → EndsOpen after → fixed_end after ≡ None
 open_fixed Clean h = refl
 open_fixed (Trailing line) h = absurd h
 open_fixed (Early line whole) h = rw h refl
@@ -157,8 +158,8 @@ open_depot : (toks : List Token) (after : After) → EndsOpen after → depot_en
 open_depot [] after h = open_fixed after h
 open_depot (t ∷ ts) after h = open_trailing after h
 
-faults : (before : List Piece) (word : Keyword) (n : ℕ) (front last rest : List Token) (after after' : After) (line : ℕ)
-    (k : TextKind) → Lasts last rest
+pub faults : (before : List Piece) (word : Keyword) (n : ℕ) (front last rest : List Token) (after after' : After)
+    (line : ℕ) (k : TextKind) → Lasts last rest
     → length (front ++ last) ≤ (problem_extent before word (front ++ last)).count → EndsOpen after
     → problem_section before word n (front ++ last) after ≡ Some (Fault line k)
     → problem_section before word n (take (problem_extent before word (front ++ rest)).count (front ++ rest))

@@ -8,5 +8,6 @@ pub mod Kept
 pub mod Nodes
 pub mod OpenSections
 pub mod Parts
+pub mod PlacedHandler
 pub mod ProblemHandler
 pub mod Weighing

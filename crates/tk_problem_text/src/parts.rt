@@ -1,6 +1,6 @@
 //! The headers and sections of a problem that have been read.
 ghost use Rattle.std.specs.Prelude.{◌≡◌, ◌≤◌, ◌<◌, ◌-◌, ◌^◌, ℕ, List, [], Some, None, IfOk, IfSome};
-ghost use Rattle.std.specs.Prelude.{length, slice_index};
+ghost use Rattle.std.specs.Prelude.{length, slice_index, unwrap_or};
 ghost use Rattle.tk_lines.specs.Pieces.{Piece};
 ghost use Rattle.tk_lines.specs.Reader.Handlers.{IsReportedWord};
 ghost use Rattle.tk_problem_text.specs.Problem.{problem_header, problem_end, first_kind, weights_ends, routing_ends_of};
@@ -12,8 +12,10 @@ ghost use Rattle.tk_problem.specs.Shape.{WeightsFit, RoutingFits};
 ghost use Rattle.tk_lines.specs.Reader.HandlerSteps.{RefusesHeader, TakesHeader};
 ghost use Rattle.tk_problem_text.specs.Reader.Parts.{KeepsDemand, KeepsDepot, KeepsLower, KeepsPlaces, NotesDisplay};
 
+use crate::display::Display;
 use crate::header_values::{ProblemType, WeightType};
 use crate::headers::Headers;
+use crate::placed_problem::{GivenPlaces, PlacedProblem, PlacesOrigin};
 use std::alloc::{AllocError, Global};
 use tk_lines::ValueScanner;
 use tk_problem::{Points, Problem, Routing, Weights};
@@ -35,6 +37,8 @@ impl Parts {
     ghost use Rattle.tk_problem.specs.declared.weights.Weights.TheVariants as weights;
     ghost use Rattle.tk_problem_text.specs.Reader.Parts.{HasParts, IsWhole, problem_in};
     ghost use Rattle.tk_problem_text.specs.ProblemOf.{problem_is};
+    ghost use Rattle.tk_problem_text.specs.Placed.{placed_is};
+    ghost use Rattle.tk_problem_text.specs.Reader.PlacedHandler.{AreEnough, places_in};
 
     /// No header and no section has been read.
     ///
@@ -143,6 +147,47 @@ impl Parts {
             weights,
             routing,
         }
+    }
+
+    /// The problem that complete parts describe, with the places of its cities.
+    pub fn into_placed(self, display: Display) -> PlacedProblem
+        requires whole { IsWhole self }
+        requires enough { AreEnough (unwrap_or self.headers.dimension 0)
+            (places_in self.headers.weight_type self.places display) }
+        ensures { placed_is result ≡ record {
+          problem = problem_in self;
+          places = places_in self.headers.weight_type self.places display;
+        } }
+    {
+        let mut parts = self;
+        let places = parts.take_places(display);
+        PlacedProblem {
+            problem: parts.into_problem(),
+            places,
+        }
+    }
+
+    /// Takes the places of the cities out of the parts, if the weights are explicit.
+    fn take_places(&mut self, display: Display) -> Option<GivenPlaces>
+        requires { IsWhole self.old }
+        ensures places { result ≡ places_in self.old.headers.weight_type self.old.places display }
+        ensures whole { IsWhole self.new }
+        ensures same { problem_in self.new ≡ problem_in self.old }
+    {
+        let Some(WeightType::Explicit) = self.headers.weight_type else {
+            return None;
+        };
+        let nodes = self.places.take();
+        if let Display::Read(points) = display {
+            return Some(GivenPlaces {
+                origin: PlacesOrigin::DisplayData,
+                points,
+            });
+        }
+        Some(GivenPlaces {
+            origin: PlacesOrigin::NodeCoordinates,
+            points: nodes?,
+        })
     }
 
     /// The fault of the weights at the end of the text, if there is one.

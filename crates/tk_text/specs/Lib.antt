@@ -22,6 +22,7 @@ pub use Rattle.tk_problem_text.specs.Sections.Rows
 pub use Rattle.tk_problem_text.specs.Sections.WeightSection
 pub use Rattle.tk_problem_text.specs.HeaderValues
 pub use Rattle.tk_problem_text.specs.Names
+pub use Rattle.tk_problem_text.specs.Placed
 pub use Rattle.tk_problem_text.specs.ProblemOf
 pub use Rattle.tk_problem_text.specs.Problem
 pub use Rattle.tk_lists.specs.Solution

@@ -13,7 +13,11 @@ pub use tk_problem::{
     Problem, ROUTE_LIMIT, Routing, SCALE, TABLE_LIMIT, TEXT_LIMIT, Unit, WeightCursor, Weights,
     WholePoint, limits_are_these_numbers,
 };
-pub use tk_problem_text::{decided_problems_stay, each_problem_text_has_an_answer, read_problem};
+pub use tk_problem_text::{
+    GivenPlaces, PlacedProblem, PlacesOrigin, decided_places_stay, decided_problems_stay,
+    each_placed_text_has_an_answer, each_problem_text_has_an_answer, placed_problems_are_problems,
+    read_placed_problem, read_problem,
+};
 pub use tk_words::{
     BUFFER_SIZE, Entry, Failed, FeedResult, FromRead, Keyword, Role, Source, TextFault, TextKind,
     TextReader, blank, buffer_size_is_this_number, decimal, each_word_spells_its_keyword, entry_of,

@@ -1,7 +1,7 @@
 -- What the answer to rejected texts reports, by the fault that stopped the engine.
 use Rattle.std.proofs.Common.{◌≡◌, ℕ, ◌+◌, ◌≤◌, ◌⊎◌, ◌∙◌, inl, inr, List, Option, Err, ap, arith, refl, subst}
-use Rattle.tk_text.specs.Problem.{ProblemIs, problem_texts}
-use Rattle.tk_text.specs.Texts.{IsReportedOf, OfText, Texts, answer_of, cause_of}
+use Rattle.tk_text.specs.Problem.{ProblemIs}
+use Rattle.tk_text.specs.Texts.{Decided, IsReportedOf, OfText, Texts, answer_of, cause_of, texts_of}
 use Rattle.tk_words.specs.declared.fault.TextFault.{TextFault}
 use Rattle.tk_words.specs.declared.fault.TextKind.{TextKind}
 use Rattle.tk_words.specs.declared.fault.TextKind.TheVariants as kinds
@@ -15,8 +15,8 @@ use Rattle.tk_engines.specs.declared.route_fault.RouteFault.{RouteFault}
 use Rattle.tk_engines.specs.declared.route_fault.RouteFault.TheVariants as solutions
 use Rattle.tk_engines.specs.declared.fault.Fault.{Fault}
 use Rattle.tk_engines.specs.declared.fault.Fault.TheVariants as faults
-use Rattle.tourkit_c.specs.Answers.{IsFaulty, IsFitAnd, IsMisfitAnswer, IsRightRefusal, IsStop, NeverClashes}
-use Rattle.tourkit_c.specs.Answers.{NoFault, NoRefusal}
+use Rattle.tourkit_c.specs.Answers.{IsFaulty, IsFitIn, IsMisfitAnswer, IsRightRefusal, IsRightRefusalIn, IsStop}
+use Rattle.tourkit_c.specs.Answers.{IsStopIn, NeverClashes, NoFault, NoRefusal}
 use Rattle.tourkit_c.specs.Outcomes.{clash_answer, fault_answer, kind_answer, param_answer, param_kind_answer}
 use Rattle.tourkit_c.specs.Outcomes.{param_number, refused, route_clash_answer, text_answer, text_number}
 use Rattle.tourkit_c.specs.Solved.{AreParamsRefused, HasParamFault}
@@ -74,9 +74,11 @@ route_clash_text text (solutions.OverCapacity route load) answer is = ap (λ (a 
 route_clash_text text (solutions.NotServed customer) answer is = ap (λ (a : Answer). a.text) is
 route_clash_text text (solutions.WrongCost read counted) answer is = ap (λ (a : Answer). a.text) is
 
-module _ (misfit : ProblemIs → Option Fault) (Clash : ProblemIs → Fault → Type 0)
-    (Second : ProblemIs → Answer → Type 0) (first : ℕ) (some : 1 ≤ first) (problem : List ℕ) (answer : Answer) where
-  first_refused : IsFaulty problem_texts first problem answer → IsRightRefusal misfit Clash Second first problem answer
+module _ {V : Type 0} {decided : Decided V TextFault} {limit : ℕ} (misfit : V → Option Fault)
+    (Clash : V → Fault → Type 0) (Second : V → Answer → Type 0) (first : ℕ) (some : 1 ≤ first) (problem : List ℕ)
+    (answer : Answer) where
+  first_refused : IsFaulty (texts_of decided limit) first problem answer →
+      IsRightRefusalIn (texts_of decided limit) misfit Clash Second first problem answer
   first_refused h =
       let here : answer.text ≡ first = ap (λ (a : Answer). a.text) h.reported in
       record {
@@ -87,9 +89,9 @@ module _ (misfit : ProblemIs → Option Fault) (Clash : ProblemIs → Fault → 
       }
 
   second_refused : answer.text ≡ first + 1
-      → IsFitAnd misfit problem (λ p. Second p answer
+      → IsFitIn (texts_of decided limit) misfit problem (λ p. Second p answer
       ⊎ ((f : Fault) × Clash p f × (answer ≡ fault_answer first f answer.needed))) →
-      IsRightRefusal misfit Clash Second first problem answer
+      IsRightRefusalIn (texts_of decided limit) misfit Clash Second first problem answer
   second_refused here h = record {
     known = inr (inr here);
     is_problem = λ e. absurd (omega arith);
@@ -97,7 +99,8 @@ module _ (misfit : ProblemIs → Option Fault) (Clash : ProblemIs → Fault → 
     is_misfit = λ e. absurd (omega arith);
   }
 
-  misfit_refused : IsMisfitAnswer misfit problem answer → IsRightRefusal misfit Clash Second first problem answer
+  misfit_refused : IsMisfitAnswer (texts_of decided limit) misfit problem answer →
+      IsRightRefusalIn (texts_of decided limit) misfit Clash Second first problem answer
   misfit_refused h =
       let here : answer.text ≡ 0 = ap (λ (a : Answer). a.text) h.2 in
       record {
@@ -108,15 +111,14 @@ module _ (misfit : ProblemIs → Option Fault) (Clash : ProblemIs → Fault → 
       }
 
   -- the answer to a fault that stopped an engine is correct
-  pub right_refusal : (Tour Solution : ProblemIs → TextFault → Type 0) → answer.status ≡ 2
-      → ((p : ProblemIs) (f : TextFault) → Tour p f → answer ≡ text_answer (first + 1) f answer.needed →
-      Second p answer)
-      → ((p : ProblemIs) (f : TextFault) → Solution p f → answer ≡ text_answer (first + 1) f answer.needed →
-      Second p answer)
+  pub right_refusal : (Tour Solution : V → TextFault → Type 0) → answer.status ≡ 2
+      → ((p : V) (f : TextFault) → Tour p f → answer ≡ text_answer (first + 1) f answer.needed → Second p answer)
+      → ((p : V) (f : TextFault) → Solution p f → answer ≡ text_answer (first + 1) f answer.needed → Second p answer)
       → (v : Fault) → answer ≡ fault_answer first v answer.needed →
-      IsStop misfit Clash Tour Solution problem v → IsRightRefusal misfit Clash Second first problem answer
+      IsStopIn (texts_of decided limit) misfit Clash Tour Solution problem v →
+      IsRightRefusalIn (texts_of decided limit) misfit Clash Second first problem answer
   right_refusal Tour Solution two tour solution (faults.Problem f) is h =
-      first_refused (faulty problem_texts first problem f answer two refl is h)
+      first_refused (faulty (texts_of decided limit) first problem f answer two refl is h)
   right_refusal Tour Solution two tour solution (faults.Tour f) is h =
       second_refused (ap (λ (a : Answer). a.text) (reported_kind (first + 1) f.line f.kind answer two is).0)
       (record { p = h.p; is_problem = h.is_problem; fits = h.fits; fact = inl (tour h.p f h.fact is) })

@@ -1,6 +1,7 @@
 -- The output of `plot` for texts in memory.
 use Rattle.std.specs.Prelude.{◌≡◌, ◌⊎◌, Option, ℕ, Bool, true, false, List, [], None, is_some}
-use Rattle.tk_text.specs.Problem.{ProblemIs, problem_texts}
+use Rattle.tk_text.specs.Placed.{PlacedIs, placed_texts}
+use Rattle.tk_text.specs.Problem.{ProblemIs}
 use Rattle.tk_text.specs.Solution.{solution_texts}
 use Rattle.tk_text.specs.Tour.{tour_texts}
 use Rattle.tk_engines.specs.declared.engines.plotted.Plotted.{Plotted}
@@ -25,11 +26,11 @@ ClaimSays given text p (RoutesClaim s) = (given ≡ true) × (is_some p.routing 
 
 pub record IsPlotOf (form : OutputFormat) (given : Bool) (problem claim : List ℕ) (answer : Plotted) (output : Output) :
     Type 0 where
-  pub p : ProblemIs
+  pub p : PlacedIs
   pub c : Claim
-  pub is_problem : TextSays problem_texts problem p
-  pub is_claim : ClaimSays given claim p c
-  pub is : IsPlot form p c answer output
+  pub is_problem : TextSays placed_texts problem p
+  pub is_claim : ClaimSays given claim p.problem c
+  pub is : IsPlot form p.places p.problem c answer output
 
 -- 1 if the tour or the routes have a fault, otherwise 0
 abbrev pub plot_status : Plotted → ℕ
@@ -59,21 +60,22 @@ HoldPage given problem claim out out' reported reported' answer =
     (parts : Parts) × ArePageParts parts × HoldPlot (forms.Page parts) given problem claim out out' reported reported'
     answer
 
--- a problem without coordinates cannot be drawn
-abbrev pub plot_misfit : ProblemIs → Option Fault
-plot_misfit p = without_places p.weights
+-- a problem without places for its cities cannot be drawn
+abbrev pub plot_misfit : PlacedIs → Option Fault
+plot_misfit p = without_places p.problem.weights p.places
 
 -- the second text is a tour text, since the problem has no routing, and has this fault
-abbrev pub IsTourFault : Bool → List ℕ → ProblemIs → TextFault → Type 0
-IsTourFault given claim p f = (given ≡ true) × (p.routing ≡ None) × HasFault tour_texts claim f
+abbrev pub IsTourFault : Bool → List ℕ → PlacedIs → TextFault → Type 0
+IsTourFault given claim p f = (given ≡ true) × (p.problem.routing ≡ None) × HasFault tour_texts claim f
 
 -- the second text is a solution text, since the problem has a routing, and has this fault
-abbrev pub IsSolutionFault : Bool → List ℕ → ProblemIs → TextFault → Type 0
-IsSolutionFault given claim p f = (given ≡ true) × (is_some p.routing ≡ true) × HasFault solution_texts claim f
+abbrev pub IsSolutionFault : Bool → List ℕ → PlacedIs → TextFault → Type 0
+IsSolutionFault given claim p f =
+    (given ≡ true) × (is_some p.problem.routing ≡ true) × HasFault solution_texts claim f
 
 -- the second text has the fault that the answer reports: as a tour text if the problem has no routing, otherwise as a
 -- solution text
-abbrev pub IsClaimRefused : Bool → List ℕ → ProblemIs → Answer → Type 0
+abbrev pub IsClaimRefused : Bool → List ℕ → PlacedIs → Answer → Type 0
 IsClaimRefused given claim p answer =
-    (given ≡ true) × (((p.routing ≡ None) × IsFaulty tour_texts 2 claim answer)
-    ⊎ ((is_some p.routing ≡ true) × IsFaulty solution_texts 2 claim answer))
+    (given ≡ true) × (((p.problem.routing ≡ None) × IsFaulty tour_texts 2 claim answer)
+    ⊎ ((is_some p.problem.routing ≡ true) × IsFaulty solution_texts 2 claim answer))

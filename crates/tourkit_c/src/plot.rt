@@ -3,7 +3,8 @@ ghost use Rattle.std.specs.Prelude.{◌≡◌, ◌≤◌, IfOk, IfErr};
 ghost use Rattle.tk_engines.specs.Plot.{Output};
 ghost use Rattle.tk_engines.specs.declared.engines.plotted.Plotted.{Plotted};
 ghost use Rattle.tk_picture.specs.declared.picture.OutputFormat.TheVariants.{Svg};
-ghost use Rattle.tourkit_c.specs.Answers.{IsRightRefusal, IsStop, NeverClashes};
+ghost use Rattle.tk_text.specs.Placed.{placed_texts};
+ghost use Rattle.tourkit_c.specs.Answers.{IsRightRefusalIn, IsStopIn, NeverClashes};
 ghost use Rattle.tourkit_c.specs.Outcomes.{with_status};
 ghost use Rattle.tourkit_c.specs.Plotted.{HoldPage, HoldPlot, IsClaimRefused, IsPlotOf, IsSolutionFault, IsTourFault};
 ghost use Rattle.tourkit_c.specs.Plotted.{line_in, picture_in, plot_misfit, plot_status};
@@ -30,7 +31,7 @@ fn plotted(
 ) -> Result<(Plotted, Vec<u8>, Vec<u8>), Fault>
     ensures ok { IfOk result (λ r. (output : Output) × IsPlotOf form.entry has_claim problem.now claim.now r.0 output
         × (r.1.items ≡ picture_in output) × (r.2.items ≡ line_in output)) }
-    ensures err { IfErr result (IsStop plot_misfit NeverClashes (IsTourFault has_claim claim.now)
+    ensures err { IfErr result (IsStopIn placed_texts plot_misfit NeverClashes (IsTourFault has_claim claim.now)
         (IsSolutionFault has_claim claim.now) problem.now) }
 {
     let mut problem = FromRead::new(problem);
@@ -77,7 +78,8 @@ fn drawn(
         → HoldPlot form.entry has_claim problem.now claim.now out.old out.new reported.old reported.new result }
     ensures known { result.status ≤ 3 }
     ensures refused { result.status ≡ 2
-        → IsRightRefusal plot_misfit NeverClashes (IsClaimRefused has_claim claim.now) 1 problem.now result }
+        → IsRightRefusalIn placed_texts plot_misfit NeverClashes (IsClaimRefused has_claim claim.now) 1 problem.now
+        result }
     ensures memory { result.status ≡ 3 → result ≡ with_status 3 result.needed }
     ensures message { 2 ≤ result.status → IsSomeText reported.old reported.new result }
     ensures kept { 2 ≤ result.status → out.new ≡ out.old }
@@ -96,8 +98,8 @@ fn drawn(
 
 /// Draws a problem, and if `has_claim` is true, the tour or the routes of another text: `out` gets the picture (SVG),
 /// of `needed` bytes. If the tour or the routes have a fault, the status is 1, and `reported` gets the line that
-/// reports it, of `needed_file` bytes. If a text is rejected, or the problem has no coordinates, `reported` gets the
-/// message, of `needed` bytes.
+/// reports it, of `needed_file` bytes. If a text is rejected, or the problem does not place its cities, `reported` gets
+/// the message, of `needed` bytes.
 #[unsafe(no_mangle)]
 pub extern "C" fn tourkit_plot(
     alloc: Global,
@@ -112,7 +114,8 @@ pub extern "C" fn tourkit_plot(
         → HoldPlot Svg has_claim problem.now claim.now out.old out.new reported.old reported.new answer.new }
     ensures known { answer.new.status ≤ 3 }
     ensures refused { answer.new.status ≡ 2
-        → IsRightRefusal plot_misfit NeverClashes (IsClaimRefused has_claim claim.now) 1 problem.now answer.new }
+        → IsRightRefusalIn placed_texts plot_misfit NeverClashes (IsClaimRefused has_claim claim.now) 1 problem.now
+        answer.new }
     ensures memory { answer.new.status ≡ 3 → answer.new ≡ with_status 3 answer.new.needed }
     ensures message { 2 ≤ answer.new.status → IsSomeText reported.old reported.new answer.new }
     ensures kept { 2 ≤ answer.new.status → out.new ≡ out.old }
@@ -143,7 +146,8 @@ pub extern "C" fn tourkit_page(
         → HoldPage has_claim problem.now claim.now out.old out.new reported.old reported.new answer.new }
     ensures known { answer.new.status ≤ 3 }
     ensures refused { answer.new.status ≡ 2
-        → IsRightRefusal plot_misfit NeverClashes (IsClaimRefused has_claim claim.now) 1 problem.now answer.new }
+        → IsRightRefusalIn placed_texts plot_misfit NeverClashes (IsClaimRefused has_claim claim.now) 1 problem.now
+        answer.new }
     ensures memory { answer.new.status ≡ 3 → answer.new ≡ with_status 3 answer.new.needed }
     ensures message { 2 ≤ answer.new.status → IsSomeText reported.old reported.new answer.new }
     ensures kept { 2 ≤ answer.new.status → out.new ≡ out.old }

@@ -11,6 +11,8 @@ const HELP: &str = "Reads PROBLEM and TOUR or SOLUTION; one of them may be -, fo
 Prints a picture as SVG: the cities, the tour or the routes, and the depot of a CVRP.
 With --html, prints a self-contained HTML page: a picture to zoom and pan, the number, coordinates and demand of each
 city, and a table of the routes.
+The cities of a PROBLEM with explicit weights are drawn where DISPLAY_DATA_SECTION, or else NODE_COORD_SECTION, places
+them.
 The second file is checked first. If it is not a tour of PROBLEM, or its routes are not valid, nothing is drawn,
 and standard error gets what check or checksol would print.
 

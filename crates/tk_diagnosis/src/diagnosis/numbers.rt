@@ -44,13 +44,13 @@ impl Entry {
 /// node, DIMENSION.
 fn text_of_field(section: Keyword, field: u64) -> &'static str {
     match (section, field) {
-        (Keyword::NodeCoordSection | Keyword::DemandSection, 0) => {
+        (Keyword::NodeCoordSection | Keyword::DisplayDataSection | Keyword::DemandSection, 0) => {
             "the node number of entry {} of {}, an integer from 1 to {}"
         }
-        (Keyword::NodeCoordSection, 1) => {
+        (Keyword::NodeCoordSection | Keyword::DisplayDataSection, 1) => {
             "x of entry {} of {}, a decimal number from -1,000,000,000 to 1,000,000,000"
         }
-        (Keyword::NodeCoordSection, _) => {
+        (Keyword::NodeCoordSection | Keyword::DisplayDataSection, _) => {
             "y of entry {} of {}, a decimal number from -1,000,000,000 to 1,000,000,000"
         }
         (Keyword::DemandSection, _) => {
@@ -201,13 +201,11 @@ fn faulty_on(line: &[u8], place: SectionPosition, size: u64, kind: TextKind) -> 
 fn fault_of(section: Keyword, index: u64, bytes: &[u8], size: u64) -> Option<TextKind> {
     let is_node = index % entry_width(section) == 0;
     match section {
-        Keyword::NodeCoordSection | Keyword::DemandSection if is_node => fault_within(
-            bytes,
-            1,
-            size,
-            TextKind::BadNode,
-        ),
-        Keyword::NodeCoordSection if bytes.len() <= 64 => decimal(bytes).err(),
+        Keyword::NodeCoordSection | Keyword::DisplayDataSection | Keyword::DemandSection
+            if is_node => fault_within(bytes, 1, size, TextKind::BadNode),
+        Keyword::NodeCoordSection | Keyword::DisplayDataSection if bytes.len() <= 64 => {
+            decimal(bytes).err()
+        }
         Keyword::DemandSection => fault_within(
             bytes,
             0,
@@ -287,7 +285,7 @@ fn above_size<'a>(entry: Entry, bytes: &'a [u8], line: u64) -> Diagnosis<'a> {
 fn outside(entry: Entry, bytes: &[u8]) -> Diagnosis<'_> {
     let here = Diagnosis::new(entry.wanted(), Sentence::of_word(bytes));
     match entry.section {
-        Keyword::NodeCoordSection => here.advice(
+        Keyword::NodeCoordSection | Keyword::DisplayDataSection => here.advice(
             "Use a larger unit for all coordinates: divide each of them by the same number.",
         ),
         Keyword::TourSection => here.advice(
@@ -301,7 +299,11 @@ fn outside(entry: Entry, bytes: &[u8]) -> Diagnosis<'_> {
 fn no_number(entry: Entry, bytes: &[u8]) -> Diagnosis<'_> {
     let misread = misread_of(bytes);
     let field = entry.index % entry_width(entry.section);
-    let is_decimal = entry.section == Keyword::NodeCoordSection && field > 0;
+    let has_decimals = matches!(
+        entry.section,
+        Keyword::NodeCoordSection | Keyword::DisplayDataSection
+    );
+    let is_decimal = has_decimals && field > 0;
     let here = Diagnosis::new(
         entry.wanted(),
         Sentence::about(read_as(misread, !is_decimal), bytes),

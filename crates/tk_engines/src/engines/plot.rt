@@ -12,8 +12,8 @@ ghost use Rattle.tk_engines.specs.Engine.{AtWrite, BeforeSecond, EndsByProblem, 
 ghost use Rattle.tk_engines.specs.Engine.{UnlessWrite};
 ghost use Rattle.tk_picture.specs.Pictures.{Fits, drawing_of};
 ghost use Rattle.tk_engines.specs.declared.fault.Fault.TheVariants.{NoPlaces};
-ghost use Rattle.tk_engines.specs.Plot.{AreUntouched, WritesOutput, WritesSome, demands_in, without_places};
-ghost use Rattle.tk_engines.specs.Plot.{IsPicture, IsRouteOutput, IsTourOutput, IsViewOf};
+ghost use Rattle.tk_engines.specs.Plot.{AreUntouched, WritesOutput, WritesSome, demands_in, origin_of, without_places};
+ghost use Rattle.tk_engines.specs.Plot.{ArePointsOf, IsPicture, IsRouteOutput, IsTourOutput, IsViewOf};
 ghost use Rattle.tk_engines.specs.Plot.{Plots, PlotsClaim, ReadsClaim, plot_task};
 
 use crate::engines::plotted::Plotted;
@@ -24,8 +24,8 @@ use crate::outcomes::tour::TourOutcome;
 use std::alloc::Global;
 use tk_lists::{SolText, read_solution, read_tour};
 use tk_picture::{OutputFormat, Picture, Subject, View, write_picture};
-use tk_problem::{Problem, Weights};
-use tk_problem_text::read_problem;
+use tk_problem::{Points, Problem, Weights};
+use tk_problem_text::{PlacedProblem, PlacesOrigin, read_placed_problem};
 use tk_routes::{Cvrp, RouteVerdict, check_routes};
 use tk_tour::{Verdict, check};
 use tk_words::Source;
@@ -50,28 +50,54 @@ fn demands_of(problem: &Problem) -> &[u32]
     }
 }
 
-/// A view of all cities of a problem; `None` if they have no coordinates.
-fn view_of(problem: &Problem) -> Option<View<'_>>
-    ensures some { IfSome result (IsViewOf (problem_is problem.now)) }
-    ensures none { IfNone result (without_places (problem_is problem.now).weights ≡ Some NoPlaces) }
+/// The points of all cities of a problem: those that the distances depend on, otherwise those that the text gives;
+/// `None` if there are none.
+fn points_of(placed: &PlacedProblem) -> Option<&Points>
+    ensures some { IfSome result (λ points. ArePointsOf placed.now.places (problem_is placed.now.problem) points.now) }
+    ensures none { IfNone result
+        (without_places (problem_is placed.now.problem).weights placed.now.places ≡ Some NoPlaces) }
 {
-    let Weights::Points(_, points) = &problem.weights else {
-        return None;
-    };
+    match &placed.problem.weights {
+        Weights::Points(_, points) => Some(points),
+        Weights::Lower(_) => match &placed.places {
+            Some(given) => Some(&given.points),
+            None => None,
+        },
+    }
+}
+
+/// A view of all cities of a problem; `None` if they have no places.
+fn view_of(placed: &PlacedProblem) -> Option<View<'_>>
+    ensures some { IfSome result (IsViewOf placed.now.places (problem_is placed.now.problem)) }
+    ensures none { IfNone result
+        (without_places (problem_is placed.now.problem).weights placed.now.places ≡ Some NoPlaces) }
+{
+    let points = points_of(placed)?;
     Some(View::over(points.places()))
 }
 
+/// The section that has the places of the cities, if the distances do not depend on them.
+fn origin_of(placed: &PlacedProblem) -> Option<PlacesOrigin>
+    ensures { result ≡ origin_of placed.now.places }
+{
+    let given = placed.places.as_ref()?;
+    Some(given.origin)
+}
+
 /// A picture of a problem.
-fn picture_of<'a>(problem: &'a Problem, view: View<'a>, subject: Subject<'a>) -> Picture<'a>
-    ensures name { result.name.now ≡ problem.now.name.items }
+fn picture_of<'a>(placed: &'a PlacedProblem, view: View<'a>, subject: Subject<'a>) -> Picture<'a>
+    ensures name { result.name.now ≡ placed.now.problem.name.items }
+    ensures origin { result.origin ≡ origin_of placed.now.places }
     ensures view { result.view ≡ view.entry }
     ensures subject { result.subject ≡ subject.entry }
-    ensures depot { result.depot ≡ option_map (λ r. r.depot) problem.now.routing }
-    ensures known { IfSome result.depot (IsCity problem.now.n) }
-    ensures demands { result.demands.now ≡ demands_in (problem_is problem.now).routing }
+    ensures depot { result.depot ≡ option_map (λ r. r.depot) placed.now.problem.routing }
+    ensures known { IfSome result.depot (IsCity placed.now.problem.n) }
+    ensures demands { result.demands.now ≡ demands_in (problem_is placed.now.problem).routing }
 {
+    let problem = &placed.problem;
     Picture {
         name: &problem.name,
+        origin: origin_of(placed),
         view,
         subject,
         depot: depot_of(problem),
@@ -82,42 +108,44 @@ fn picture_of<'a>(problem: &'a Problem, view: View<'a>, subject: Subject<'a>) ->
 /// Draws a problem, and a tour or routes of it.
 fn draw<W: Sink>(
     out: &mut W,
-    problem: &Problem,
+    placed: &PlacedProblem,
     view: &View<'_>,
     subject: Subject<'_>,
     form: &OutputFormat<'_>,
 ) -> Result<(), WriteFault>
-    requires view { IsViewOf (problem_is problem.now) view.now }
-    requires fits { Fits problem.now.n subject }
-    ensures text { WritesSome (IsPicture form.now (problem_is problem.now) (drawing_of subject.entry))
+    requires view { IsViewOf placed.now.places (problem_is placed.now.problem) view.now }
+    requires fits { Fits placed.now.problem.n subject }
+    ensures text { WritesSome
+        (IsPicture form.now placed.now.places (problem_is placed.now.problem) (drawing_of subject.entry))
         (Writes W.Sink out.old out.new result) }
     ensures failed { OnErr result (IsBroken W.Sink out.new) }
 {
-    write_picture(out, &picture_of(problem, *view, subject), *form)
+    write_picture(out, &picture_of(placed, *view, subject), *form)
 }
 
 /// Draws a tour, or writes the line with its fault to `reported`.
 fn show_tour<W: Sink, T: Sink>(
     out: &mut W,
     reported: &mut T,
-    problem: &Problem,
+    placed: &PlacedProblem,
     view: &View<'_>,
     cities: &[u32],
     verdict: Verdict,
     form: &OutputFormat<'_>,
 ) -> Result<(), WriteFault>
-    requires view { IsViewOf (problem_is problem.now) view.now }
-    requires verdict { IsVerdict problem.now.n cities.now verdict }
-    ensures text { WritesSome (IsTourOutput form.now (problem_is problem.now) cities.now verdict)
+    requires view { IsViewOf placed.now.places (problem_is placed.now.problem) view.now }
+    requires verdict { IsVerdict placed.now.problem.n cities.now verdict }
+    ensures text { WritesSome
+        (IsTourOutput form.now placed.now.places (problem_is placed.now.problem) cities.now verdict)
         (WritesOutput W.Sink T.Sink out.old out.new reported.old reported.new result) }
     ensures failed { OnErr result (IsBroken W.Sink out.new ⊎ IsBroken T.Sink reported.new) }
 {
     match verdict {
         Verdict::Tour => {
-            let length = length_of(problem, cities);
-            draw(out, problem, view, Subject::Tour { cities, length }, form)
+            let length = length_of(&placed.problem, cities);
+            draw(out, placed, view, Subject::Tour { cities, length }, form)
         }
-        _ => write_tour_outcome(reported, &TourOutcome::of(problem, cities, verdict)),
+        _ => write_tour_outcome(reported, &TourOutcome::of(&placed.problem, cities, verdict)),
     }
 }
 
@@ -125,19 +153,19 @@ fn show_tour<W: Sink, T: Sink>(
 fn show_routes<W: Sink, T: Sink>(
     out: &mut W,
     reported: &mut T,
-    problem: &Problem,
+    placed: &PlacedProblem,
     view: &View<'_>,
     cvrp: &Cvrp<'_>,
     solution: &SolText,
     verdict: RouteVerdict,
     form: &OutputFormat<'_>,
 ) -> Result<(), WriteFault>
-    requires view { IsViewOf (problem_is problem.now) view.now }
-    requires instance { IsInstanceOf problem.now (instance_of cvrp.now) }
+    requires view { IsViewOf placed.now.places (problem_is placed.now.problem) view.now }
+    requires instance { IsInstanceOf placed.now.problem (instance_of cvrp.now) }
     requires verdict { IsRouteVerdict (instance_of cvrp.now) (map (λ r. r.items) solution.now.routes.items)
         solution.now.cost verdict }
-    ensures text { WritesSome (IsRouteOutput form.now (problem_is problem.now) (instance_of cvrp.now)
-        (map (λ r. r.items) solution.now.routes.items) verdict)
+    ensures text { WritesSome (IsRouteOutput form.now placed.now.places (problem_is placed.now.problem)
+        (instance_of cvrp.now) (map (λ r. r.items) solution.now.routes.items) verdict)
         (WritesOutput W.Sink T.Sink out.old out.new reported.old reported.new result) }
     ensures failed { OnErr result (IsBroken W.Sink out.new ⊎ IsBroken T.Sink reported.new) }
 {
@@ -149,7 +177,7 @@ fn show_routes<W: Sink, T: Sink>(
                 count: routes,
                 cost: cost.unsigned_abs(),
             };
-            draw(out, problem, view, subject, form)
+            draw(out, placed, view, subject, form)
         }
         _ => write_route_verdict(reported, verdict),
     }
@@ -158,16 +186,16 @@ fn show_routes<W: Sink, T: Sink>(
 /// Reads a tour, and draws it or writes the line with its fault to `reported`.
 fn plot_tour<C: Source, W: Sink, T: Sink>(
     alloc: Global,
-    problem: &Problem,
+    placed: &PlacedProblem,
     view: &View<'_>,
     claim: &mut C,
     form: &OutputFormat<'_>,
     out: &mut W,
     reported: &mut T,
 ) -> Result<Plotted, Fault>
-    requires view { IsViewOf (problem_is problem.now) view.now }
-    requires tsp { problem.now.routing ≡ None }
-    ensures { PlotsClaim C.Source W.Sink T.Sink form.now (problem_is problem.now)
+    requires view { IsViewOf placed.now.places (problem_is placed.now.problem) view.now }
+    requires tsp { placed.now.problem.routing ≡ None }
+    ensures { PlotsClaim C.Source W.Sink T.Sink form.now placed.now.places (problem_is placed.now.problem)
         (claim.old, out.old, reported.old) (claim.new, out.new, reported.new) result }
 {
     let tour = match read_tour(alloc, claim) {
@@ -175,10 +203,10 @@ fn plot_tour<C: Source, W: Sink, T: Sink>(
         Err(fault) => return Err(Fault::Tour(fault)),
     };
     let cities = tour.cities.as_slice();
-    let Ok(verdict) = check(alloc, problem.n, cities) else {
+    let Ok(verdict) = check(alloc, placed.problem.n, cities) else {
         return Err(Fault::NoMemory);
     };
-    match show_tour(out, reported, problem, view, cities, verdict, form) {
+    match show_tour(out, reported, placed, view, cities, verdict, form) {
         Ok(()) => Ok(Plotted::Tour(verdict)),
         Err(fault) => Err(Fault::Write(fault)),
     }
@@ -187,7 +215,7 @@ fn plot_tour<C: Source, W: Sink, T: Sink>(
 /// Reads routes, and draws them or writes the line with their fault to `reported`.
 fn plot_routes<C: Source, W: Sink, T: Sink>(
     alloc: Global,
-    problem: &Problem,
+    placed: &PlacedProblem,
     view: &View<'_>,
     cvrp: &Cvrp<'_>,
     claim: &mut C,
@@ -195,9 +223,9 @@ fn plot_routes<C: Source, W: Sink, T: Sink>(
     out: &mut W,
     reported: &mut T,
 ) -> Result<Plotted, Fault>
-    requires view { IsViewOf (problem_is problem.now) view.now }
-    requires instance { IsInstanceOf problem.now (instance_of cvrp.now) }
-    ensures { PlotsClaim C.Source W.Sink T.Sink form.now (problem_is problem.now)
+    requires view { IsViewOf placed.now.places (problem_is placed.now.problem) view.now }
+    requires instance { IsInstanceOf placed.now.problem (instance_of cvrp.now) }
+    ensures { PlotsClaim C.Source W.Sink T.Sink form.now placed.now.places (problem_is placed.now.problem)
         (claim.old, out.old, reported.old) (claim.new, out.new, reported.new) result }
 {
     let solution = match read_solution(alloc, claim) {
@@ -207,7 +235,7 @@ fn plot_routes<C: Source, W: Sink, T: Sink>(
     let Ok(verdict) = check_routes(alloc, cvrp, &solution) else {
         return Err(Fault::NoMemory);
     };
-    match show_routes(out, reported, problem, view, cvrp, &solution, verdict, form) {
+    match show_routes(out, reported, placed, view, cvrp, &solution, verdict, form) {
         Ok(()) => Ok(Plotted::Routes(verdict)),
         Err(fault) => Err(Fault::Write(fault)),
     }
@@ -216,20 +244,20 @@ fn plot_routes<C: Source, W: Sink, T: Sink>(
 /// Reads a tour or routes of a problem, and draws them or writes the line with their fault to `reported`.
 fn plot_claim<C: Source, W: Sink, T: Sink>(
     alloc: Global,
-    problem: &Problem,
+    placed: &PlacedProblem,
     view: &View<'_>,
     claim: &mut C,
     form: &OutputFormat<'_>,
     out: &mut W,
     reported: &mut T,
 ) -> Result<Plotted, Fault>
-    requires view { IsViewOf (problem_is problem.now) view.now }
-    ensures { PlotsClaim C.Source W.Sink T.Sink form.now (problem_is problem.now)
+    requires view { IsViewOf placed.now.places (problem_is placed.now.problem) view.now }
+    ensures { PlotsClaim C.Source W.Sink T.Sink form.now placed.now.places (problem_is placed.now.problem)
         (claim.old, out.old, reported.old) (claim.new, out.new, reported.new) result }
 {
-    match Cvrp::of(problem) {
-        Some(cvrp) => plot_routes(alloc, problem, view, &cvrp, claim, form, out, reported),
-        None => plot_tour(alloc, problem, view, claim, form, out, reported),
+    match Cvrp::of(&placed.problem) {
+        Some(cvrp) => plot_routes(alloc, placed, view, &cvrp, claim, form, out, reported),
+        None => plot_tour(alloc, placed, view, claim, form, out, reported),
     }
 }
 
@@ -237,30 +265,31 @@ fn plot_claim<C: Source, W: Sink, T: Sink>(
 /// `reported`.
 fn plot_problem<C: Source, W: Sink, T: Sink>(
     alloc: Global,
-    problem: &Problem,
+    placed: &PlacedProblem,
     claim: &mut C,
     has_claim: bool,
     form: &OutputFormat<'_>,
     out: &mut W,
     reported: &mut T,
 ) -> Result<Plotted, Fault>
-    ensures ends { EndsByProblem (plot_task form.now has_claim) (HasRead (problem_is problem.now))
+    ensures ends { EndsByProblem (plot_task form.now placed.now.places has_claim)
+        (HasRead (problem_is placed.now.problem))
         (ReadsClaim has_claim C.Source claim.old claim.new)
         (WritesOutput W.Sink T.Sink out.old out.new reported.old reported.new) result }
     ensures quiet { IfErr result (UnlessWrite (AreUntouched W.Sink T.Sink out.old out.new reported.old reported.new)) }
     ensures failed { IfErr result (AtWrite (IsBroken W.Sink out.new ⊎ IsBroken T.Sink reported.new)) }
     ensures unread { IfErr result (BeforeSecond (IsUnread C.Source claim.old claim.new)) }
 {
-    let Some(view) = view_of(problem) else {
+    let Some(view) = view_of(placed) else {
         return Err(Fault::NoPlaces);
     };
     if !has_claim {
-        let Err(fault) = draw(out, problem, &view, Subject::Cities, form) else {
+        let Err(fault) = draw(out, placed, &view, Subject::Cities, form) else {
             return Ok(Plotted::Cities);
         };
         return Err(Fault::Write(fault));
     }
-    plot_claim(alloc, problem, &view, claim, form, out, reported)
+    plot_claim(alloc, placed, &view, claim, form, out, reported)
 }
 
 /// Draws the cities of a problem and, if `has_claim` is true, the tour or the routes of another text. These are checked
@@ -270,8 +299,8 @@ fn plot_problem<C: Source, W: Sink, T: Sink>(
 /// The other text is read as a solution if the problem has a routing, otherwise as a tour.
 ///
 /// # Errors
-/// The fault of either text or of a write, or `NoMemory` if memory runs out; `NoPlaces` if the problem has explicit
-/// weights.
+/// The fault of either text, including that of its display data, or of a write, or `NoMemory` if memory runs out;
+/// `NoPlaces` if the problem has explicit weights and its text does not place the cities.
 pub fn plot_engine<P: Source, C: Source, W: Sink, T: Sink>(
     alloc: Global,
     problem: &mut P,
@@ -287,8 +316,8 @@ pub fn plot_engine<P: Source, C: Source, W: Sink, T: Sink>(
     ensures failed { IfErr result (AtWrite (IsBroken W.Sink out.new ⊎ IsBroken T.Sink reported.new)) }
     ensures unread { IfErr result (BeforeSecond (IsUnread C.Source claim.old claim.new)) }
 {
-    match read_problem(alloc, problem) {
-        Ok(problem) => plot_problem(alloc, &problem, claim, has_claim, &form, out, reported),
+    match read_placed_problem(alloc, problem) {
+        Ok(placed) => plot_problem(alloc, &placed, claim, has_claim, &form, out, reported),
         Err(fault) => Err(Fault::Problem(fault)),
     }
 }

@@ -47,7 +47,7 @@ module _ (t : Token) (tests : List (Bool × TextKind)) where
   pub checked-ready : IsReady t → checked 64 t tests ≡ first_at t.line tests
   checked-ready r = rw (le-ltb _ _ r.short, r.whole) refl
 
-none_of_both : (x y : Option Stop) → or_else x y ≡ None → (x ≡ None) × (y ≡ None)
+pub none_of_both : (x y : Option Stop) → or_else x y ≡ None → (x ≡ None) × (y ≡ None)
 none_of_both None y h = (refl, h)
 none_of_both (Some s) y h = absurd cc
 

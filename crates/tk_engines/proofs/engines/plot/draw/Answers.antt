@@ -14,6 +14,8 @@ write_picture-requires-clause-depot g c =
 pub returns-clause-text : goal.returns-clause-text
 returns-clause-text g c =
     let ensures = c.picture_of.ensures in
-    let drawn = picture_drawn c.args.form.now c.args.problem.now c.picture_of.result c.args.view.now c.args.subject
-    c.requires.view ensures.name ensures.view ensures.subject ensures.depot ensures.demands in
+    let placed = c.args.placed.now in
+    let drawn = picture_drawn c.args.form.now placed.places placed.problem c.picture_of.result c.args.view.now
+    c.args.subject
+    c.requires.view ensures.name ensures.origin ensures.view ensures.subject ensures.depot ensures.demands in
     (text_in c.args.form.now c.picture_of.result, (drawn, c.write_picture.ensures.text))

@@ -10,12 +10,13 @@ use Rattle.tk_engines.proofs.engines.plot.plot_problem.Goals.{After-draw}
 
 -- where nothing is claimed, the cities are drawn
 drawn : (g : Over) (c : After-draw g) →
-    IsGiven (plot_task c.args.form.now c.args.has_claim) (HasRead (problem_is c.args.problem.now))
+    IsGiven (plot_task c.args.form.now c.args.placed.now.places c.args.has_claim)
+    (HasRead (problem_is c.args.placed.now.problem))
     (ReadsClaim c.args.has_claim g.C.Source c.args.claim.now c.args.claim.now)
     (WritesOutput g.W.Sink g.T.Sink c.args.out.now c.draw.new.out c.args.reported.now c.args.reported.now c.draw.result)
     plotted.Cities
 drawn g c = record {
-  problem = problem_is c.args.problem.now;
+  problem = problem_is c.args.placed.now.problem;
   second = Nothing;
   text = Drawn c.draw.ensures.text.0;
   read = record {

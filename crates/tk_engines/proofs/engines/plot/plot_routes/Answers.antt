@@ -18,23 +18,27 @@ use Rattle.tk_engines.proofs.engines.plot.plot_routes.Goals.{In-Ok, After-show_r
 
 -- the problem fits, and the routes that were read are claimed of it
 claimed : (g : Over) (c : In-Ok g) →
-    AreRead (plot_task c.args.form.now true) (HasRead (problem_is c.args.problem.now))
-    (ReadsClaim true g.C.Source c.args.claim.now c.read_solution.new.source (problem_is c.args.problem.now))
-    (problem_is c.args.problem.now) (RoutesClaim (as_solution c.in-Ok.solution))
+    AreRead (plot_task c.args.form.now c.args.placed.now.places true) (HasRead (problem_is c.args.placed.now.problem))
+    (ReadsClaim true g.C.Source c.args.claim.now c.read_solution.new.source (problem_is c.args.placed.now.problem))
+    (problem_is c.args.placed.now.problem) (RoutesClaim (as_solution c.in-Ok.solution))
 claimed g c = record {
   is_problem = refl;
   fits = c.requires.view.fits;
-  is_second = (refl, routed_of c.args.problem.now.routing _ c.requires.instance.routing, is_read c.in-Ok.ensures.reads);
+  is_second = (
+    refl,
+    routed_of c.args.placed.now.problem.routing _ c.requires.instance.routing,
+    is_read c.in-Ok.ensures.reads,
+  );
 }
 
 -- the verdict on them is given, and what goes with it is written
 given : (g : Over) (c : After-show_routes g) →
-    IsGiven (plot_task c.args.form.now true) (HasRead (problem_is c.args.problem.now))
+    IsGiven (plot_task c.args.form.now c.args.placed.now.places true) (HasRead (problem_is c.args.placed.now.problem))
     (ReadsClaim true g.C.Source c.args.claim.now c.read_solution.new.source)
     (WritesOutput g.W.Sink g.T.Sink c.args.out.now c.show_routes.new.out c.args.reported.now c.show_routes.new.reported
     c.show_routes.result) (plotted.Routes c.in-Ok-check_routes.verdict)
 given g c =
-    let p = c.args.problem.now in
+    let p = c.args.placed.now.problem in
     let routes = map (λ r. r.items) c.in-Ok.solution.routes.items in
     let verdict = c.in-Ok-check_routes.verdict in
     let shown = c.show_routes.ensures.text in
@@ -46,7 +50,8 @@ given g c =
       together = refl;
       gives = some_instance_read p (instance_of c.args.cvrp.now)
           (λ i. IsRouteVerdict i routes c.in-Ok.solution.cost verdict
-          × IsRouteOutput c.args.form.now (problem_is p) i routes verdict shown.0) c.requires.instance
+          × IsRouteOutput c.args.form.now c.args.placed.now.places (problem_is p) i routes verdict shown.0)
+          c.requires.instance
           (c.in-Ok-check_routes.ensures, shown.1.0);
       written = shown.1.1;
     }
@@ -57,7 +62,7 @@ returns-in-Err g c = unwritten (faults.Solution c.in-Err.fault) tt (search rules
 pub returns-in_default : goal.returns-in_default
 returns-in_default g c =
     unwritten faults.NoMemory tt (
-      problem_is c.args.problem.now,
+      problem_is c.args.placed.now.problem,
       RoutesClaim (as_solution c.in-Ok.solution),
       claimed g (goal.at.returns-in_default g c).In-Ok,
       refl,

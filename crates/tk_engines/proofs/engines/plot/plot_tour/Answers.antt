@@ -12,9 +12,9 @@ use Rattle.tk_engines.proofs.engines.plot.plot_tour.Goals.{In-Ok, After-show_tou
 
 -- the problem fits, and the tour that was read is claimed of it
 claimed : (g : Over) (c : In-Ok g) →
-    AreRead (plot_task c.args.form.now true) (HasRead (problem_is c.args.problem.now))
-    (ReadsClaim true g.C.Source c.args.claim.now c.read_tour.new.source (problem_is c.args.problem.now))
-    (problem_is c.args.problem.now) (TourClaim c.in-Ok.tour.cities.items)
+    AreRead (plot_task c.args.form.now c.args.placed.now.places true) (HasRead (problem_is c.args.placed.now.problem))
+    (ReadsClaim true g.C.Source c.args.claim.now c.read_tour.new.source (problem_is c.args.placed.now.problem))
+    (problem_is c.args.placed.now.problem) (TourClaim c.in-Ok.tour.cities.items)
 claimed g c = record {
   is_problem = refl;
   fits = c.requires.view.fits;
@@ -23,14 +23,14 @@ claimed g c = record {
 
 -- the verdict on it is given, and what goes with it is written
 given : (g : Over) (c : After-show_tour g) →
-    IsGiven (plot_task c.args.form.now true) (HasRead (problem_is c.args.problem.now))
+    IsGiven (plot_task c.args.form.now c.args.placed.now.places true) (HasRead (problem_is c.args.placed.now.problem))
     (ReadsClaim true g.C.Source c.args.claim.now c.read_tour.new.source)
     (WritesOutput g.W.Sink g.T.Sink c.args.out.now c.show_tour.new.out c.args.reported.now c.show_tour.new.reported
     c.show_tour.result) (plotted.Tour c.in-Ok-check.verdict)
 given g c =
     let shown = rw c.as_slice-cities.ensures.value at c.show_tour.ensures.text in
     record {
-      problem = problem_is c.args.problem.now;
+      problem = problem_is c.args.placed.now.problem;
       second = TourClaim c.in-Ok.tour.cities.items;
       text = shown.0;
       read = claimed g (goal.at.After-show_tour g c).In-Ok;
@@ -45,7 +45,7 @@ returns-in-Err g c = unwritten (faults.Tour c.in-Err.fault) tt (search rules)
 pub returns-in_default : goal.returns-in_default
 returns-in_default g c =
     unwritten faults.NoMemory tt (
-      problem_is c.args.problem.now,
+      problem_is c.args.placed.now.problem,
       TourClaim c.in-Ok.tour.cities.items,
       claimed g (goal.at.returns-in_default g c).In-Ok,
       refl,

@@ -18,18 +18,19 @@ draw-requires-clause-fits g c =
 
 pub returns-in-Valid-clause-text : goal.returns-in-Valid-clause-text
 returns-in-Valid-clause-text g c =
-    let p = c.args.problem.now in
+    let p = c.args.placed.now.problem in
     let i = instance_of c.args.cvrp.now in
     let count = c.in-Valid.routes in
     let cost : c.unsigned_abs.result ≡ unsigned_abs c.in-Valid.cost = search rules in
     let reported = rw c.deref.ensures.value at c.draw.ensures.text in
-    let drawn = subst (λ (n : ℕ). IsPicture c.args.form.now (problem_is p)
+    let drawn = subst (λ (n : ℕ). IsPicture c.args.form.now c.args.placed.now.places (problem_is p)
     (SomeRoutes i (map (λ r. r.items) c.args.solution.now.routes.items) count n) reported.0) cost reported.1.0 in
     rw c.in-Valid.is (Drawn reported.0, (drawn, (reported.1.1, (refl, refl))))
 
 pub returns-in_default-clause-text : goal.returns-in_default-clause-text
 returns-in_default-clause-text g c =
-    let reported = routes_reported c.args.form.now c.args.problem.now (instance_of c.args.cvrp.now)
+    let placed = c.args.placed.now in
+    let reported = routes_reported c.args.form.now placed.places placed.problem (instance_of c.args.cvrp.now)
     (map (λ r. r.items) c.args.solution.now.routes.items) c.args.verdict c.in_default.not-Valid in
     (Refused _, (reported, ((refl, refl), c.write_route_verdict.ensures.text)))
 
