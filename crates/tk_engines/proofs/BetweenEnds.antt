@@ -10,7 +10,8 @@ use Rattle.tk_lists.specs.Solution.{Solution}
 use Rattle.tk_routes.specs.Instance.{Instance, IsInstanceOf, customer_count}
 use Rattle.tk_routes.specs.RouteVerdicts.{filled_of}
 use Rattle.tk_routes.specs.Routes.{AreRoutes}
-use Rattle.tk_route_search.specs.Events.{Event, Begun}
+use Rattle.tk_solve.proofs.Endings.{ends_within}
+use Rattle.tk_route_search.specs.Events.{Event, Asked, Begun}
 use Rattle.tk_route_search.specs.Runs.{Run, report_of}
 use Rattle.tk_route_search.specs.SolvedRoutes.{AreSolved, AreSound}
 use Rattle.tk_route_search.specs.Tasks.{AreGiven, Begins, At, AtLadder, RouteTask, begins_of}
@@ -100,7 +101,8 @@ IfOk-found (Ok s) o name i start task Watched All is more h sound =
       candidates = h.candidates;
       runs = h.runs;
       are = h.are;
-      count = h.count;
+      stop = h.stop;
+      ends = h.ends;
       reports = h.reports;
       winner = h.winner;
       first = h.first;
@@ -122,7 +124,7 @@ at_most : (none : Bool) (n : ℕ) → (if none then 0 else n) ≤ n
 at_most true n = omega arith
 at_most false n = omega arith
 
--- as many reports as runs
+-- no more reports than runs
 pub few_reports : (o : BetweenOptions) (Watched : List Event → Type 0) (name : List ℕ) (i : Instance)
     (start : Option Solution) (solved : SolvedRoutes) → AreFound o Watched name i start solved →
     length solved.runs.items ≤ 10000
@@ -130,4 +132,5 @@ few_reports o Watched name i start solved found =
     let are = found.are in
     let count = ap length are.reports
     ∙ length-map are.runs (λ (run : Run). report_of (customer_count i) run.ended) in
-    omega (arith, count, are.count, at_most (nat_lt (customer_count i) 2) o.runs, o.some_runs.1)
+    let within = ends_within Asked are.ends in
+    omega (arith, count, within, at_most (nat_lt (customer_count i) 2) o.runs, o.some_runs.1)

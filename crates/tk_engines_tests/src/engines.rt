@@ -1,6 +1,7 @@
 //! The engines of the subcommands.
 pub mod between;
 pub mod check;
+pub mod ending;
 pub mod given;
 pub mod info;
 pub mod matrix;

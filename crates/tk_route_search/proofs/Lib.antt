@@ -5,4 +5,5 @@ pub mod ShownRoutes
 pub mod SearchResults
 pub mod ResultsOfRuns
 pub mod RunFacts
+pub mod Unended
 pub mod Watched

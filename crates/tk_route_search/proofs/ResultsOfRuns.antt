@@ -50,14 +50,14 @@ module _ (task : RouteTask) (given : Given) (ring : List ℕ) where
       tour_length given.distance kept.ring.items ≤ tour_length given.distance run.ended.best →
       IsSoundRun given (length ring) kept (report_of (customer_count task.instance) run.ended)
   sound_run runs kept are run j is least =
-      let same : run.ended.given ≡ given = given_run (run_of is.searched.trials) ∙ is.searched.begins.given_is in
+      let same : run.ended.given ≡ given = given_run (run_of is.searched.made.trials) ∙ is.searched.begins.given_is in
       let long : tour_length run.ended.given.distance run.ended.best ≡ tour_length given.distance run.ended.best =
       ap (λ (g : Given). tour_length g.distance run.ended.best) same in
       record {
         least = omega (arith, ints, are.cost, least, long);
-        start = start_after (run_of is.searched.trials) ∙ is.searched.begins.start_is ∙ sym are.start;
+        start = start_after (run_of is.searched.made.trials) ∙ is.searched.begins.start_is ∙ sym are.start;
         bounded = subst (λ cost. IsBounded given (length ring) cost run.ended.totals) (sym long)
-            (bounded_run given ring is.searched.begins (run_of is.searched.trials));
+            (bounded_run given ring is.searched.begins (run_of is.searched.made.trials));
       }
 
   -- what is kept is not dearer than the start

@@ -1,5 +1,5 @@
 -- What is kept of the runs so far, when one more comes.
-use Rattle.std.proofs.Common.{◌≡◌, ℕ, pos, ◌+◌, ◌<◌, ◌≤◌, ⊎_elim, List, [], ◌∷◌, ◌++◌, length, refl, sym, ap}
+use Rattle.std.proofs.Common.{◌≡◌, ℕ, pos, ◌+◌, ◌<◌, ◌≤◌, true, ⊎_elim, List, [], ◌∷◌, ◌++◌, length, refl, sym, ap}
 use Rattle.std.proofs.Common.{◌∙◌, subst, arith}
 use Rattle.std.proofs.lemmas.Bool.{cases_lt}
 use Rattle.std.proofs.lemmas.Int.{ints}
@@ -11,7 +11,8 @@ use Rattle.tk_tour.specs.Tour.{tour_length}
 use Rattle.tk_ring_search.specs.Given.{Given}
 use Rattle.tk_ring_search.specs.Searching.{RingSearching}
 use Rattle.tk_route_search.specs.declared.outcome.Outcome.{Outcome}
-use Rattle.tk_route_search.specs.Events.{Event, Ended}
+use Rattle.tk_solve.specs.Endings.{question}
+use Rattle.tk_route_search.specs.Events.{Event, Asked, Ended}
 use Rattle.tk_route_search.specs.Outcomes.{AreKept, IsRunAdded, IsTaken}
 use Rattle.tk_route_search.specs.Runs.{Run, IsRun, IsSearched, none, more, best_rings, report_of}
 use Rattle.tk_route_search.specs.Tasks.{RouteTask, IsRing}
@@ -82,10 +83,11 @@ pub run_added : (task : RouteTask) (given : Given) (ring : List ℕ) (j : ℕ) (
     IsRunAdded task given ring j Watched old new
 run_added task given ring j tried ended searched stands Watched watched old new taken runs count kept =
     let k = customer_count task.instance in
+    let after : List Event = tried ++ Ended (j + 1) (report_of k ended) ∷ [] in
     let run : Run =
-    record { ended = ended; shown = tried ++ Ended (j + 1) (report_of k ended) ∷ [] } in
-    let is : IsRun task given ring j run = record { tried = tried; searched = searched; shown = refl } in
-    let same : ended.given ≡ given = given_run (run_of searched.trials) ∙ searched.begins.given_is in
+    record { trials = searched.made.count; ended = ended; shown = question Asked j true ++ after } in
+    let is : IsRun task given ring j run = record { tried = tried; searched = searched; trials = refl; shown = refl } in
+    let same : ended.given ≡ given = given_run (run_of searched.made.trials) ∙ searched.begins.given_is in
     let first = first_more task given ring runs run k old new kept same stands taken in (
       run,
       (
@@ -98,6 +100,6 @@ run_added task given ring j tried ended searched stands Watched watched old new 
           cost = first.cost;
           start = taken.start ∙ kept.start;
         },
-        watched,
+        (after, (refl, watched)),
       ),
     )

@@ -17,7 +17,8 @@ use Rattle.tk_ring_search.specs.Totals.{IsBounded}
 use Rattle.tk_route_search.specs.declared.outcome.Outcome.{Outcome}
 use Rattle.tk_route_search.specs.declared.outcome.RouteRun.{RouteRun}
 use Rattle.tk_route_search.specs.declared.routes.SolvedRoutes.{SolvedRoutes}
-use Rattle.tk_route_search.specs.Events.{Event}
+use Rattle.tk_solve.proofs.Endings.{ends_within}
+use Rattle.tk_route_search.specs.Events.{Event, Asked}
 use Rattle.tk_route_search.specs.Outcomes.{AreKept, AreMade}
 use Rattle.tk_route_search.specs.SolvedRoutes.{AreSolved, AreSound, IsBoundedRun}
 use Rattle.tk_route_search.specs.Runs.{shown_of}
@@ -83,8 +84,8 @@ module _ (task : RouteTask) (start : List (List ℕ)) (Watched : List Event → 
       let ring : List ℕ = ring_of task.instance start in
       let given : Given = given_for task (copies_in task.instance ring) made.near in
       let none : k < 2 → All (AreShownRoutes task.instance) (shown_of made.runs) = λ few.
-      subst (λ v. All (AreShownRoutes task.instance) (shown_of v))
-      (sym (nil_from_length made.runs (made.count ∙ no_runs k task.runs few)))
+      let no : length made.runs ≡ 0 = omega (arith, ends_within Asked made.ends, no_runs k task.runs few) in
+      subst (λ v. All (AreShownRoutes task.instance) (shown_of v)) (sym (nil_from_length made.runs no))
       (All-nil (AreShownRoutes task.instance)) in
       let some : 2 ≤ k → All (AreShownRoutes task.instance) (shown_of made.runs) = λ two.
       runs_valid task given ring (input_is task ring made.near off.stands (made.candidates two)) refl off.symmetric
@@ -99,7 +100,8 @@ module _ (task : RouteTask) (start : List (List ℕ)) (Watched : List Event → 
     candidates = λ two. subst (λ v. AreCandidates task v made.near) copies_are (made.candidates two);
     runs = made.runs;
     are = kept_of.are;
-    count = made.count;
+    stop = made.stop;
+    ends = made.ends;
     reports = off.runs ∙ kept_of.reports;
     winner = kept.ring.items;
     first = kept_of.first;

@@ -1,5 +1,6 @@
 -- The routes that an observer is shown are valid.
-use Rattle.std.proofs.Common.{◌≡◌, ℕ, ℤ, pos, Bool, true, false, Option, Some, None, List, [], ◌∷◌, length, sym, ap}
+use Rattle.std.proofs.Common.{◌≡◌, ℕ, ℤ, pos, Bool, true, false, Option, Some, None, List, [], ◌∷◌, ◌++◌, length, sym}
+use Rattle.std.proofs.Common.{ap}
 use Rattle.std.proofs.Common.{◌∙◌}
 use Rattle.std.proofs.Common.{subst, ◌+◌, ◌-◌}
 use Rattle.std.specs.Prelude.{All}
@@ -14,7 +15,9 @@ use Rattle.tk_ring_search.specs.Searching.{RingSearching, IsBegun, begin, trial}
 use Rattle.tk_ring_search.specs.Totals.{is_better}
 use Rattle.tk_ring_search.proofs.TrialRuns.{given_run}
 use Rattle.tk_route_search.specs.declared.watch.RouteProgress.{RouteProgress}
-use Rattle.tk_route_search.specs.Events.{Event, Tried, Ended}
+use Rattle.tk_solve.specs.Endings.{question}
+use Rattle.tk_solve.proofs.Endings.{All-ends, All-question}
+use Rattle.tk_route_search.specs.Events.{Event, Asked, Tried, Ended}
 use Rattle.tk_route_search.specs.Runs.{Run, Trials, descended, tried, IsRun, AreRuns, none, more, report_of, shown_of}
 use Rattle.tk_route_search.specs.Tasks.{RouteTask, IsInput, IsRing, copies_in}
 use Rattle.tk_route_search.specs.Watching.{AreShown, AreShownRoutes, trial_event}
@@ -76,7 +79,9 @@ module _ (task : RouteTask) (given : Given) (ring : List ℕ) (input : IsInput t
       let run = trial (run_of before) step in
       let stands = best_stands task given ring input begins run in
       let event : Event = trial_event task j (t + 1) report.descent.after new better in
-      All-append (AreShownRoutes task.instance) shown (event ∷ []) (trials_valid j begins before)
+      All-append (AreShownRoutes task.instance) (shown ++ Asked true ∷ []) (event ∷ [])
+      (All-append (AreShownRoutes task.instance) shown (Asked true ∷ []) (trials_valid j begins before)
+      (All-cons (AreShownRoutes task.instance) (Asked true) [] tt (All-nil (AreShownRoutes task.instance))))
       (All-cons (AreShownRoutes task.instance) event []
       (event_valid task.instance (length ring) new.best stands symmetric diagonal (is_better report.outcome) better
       routes (progress_of task j (t + 1) report.descent.after new)
@@ -84,11 +89,16 @@ module _ (task : RouteTask) (given : Given) (ring : List ℕ) (input : IsInput t
 
   run_valid : (j : ℕ) (run : Run) → IsRun task given ring j run → All (AreShownRoutes task.instance) run.shown
   run_valid j run is =
+      let Valid : Event → Type 0 = AreShownRoutes task.instance in
       let end : Event = Ended (j + 1) (report_of (customer_count task.instance) run.ended) in
-      subst (All (AreShownRoutes task.instance)) (sym is.shown)
-      (All-append (AreShownRoutes task.instance) is.tried (end ∷ [])
-      (trials_valid j is.searched.begins is.searched.trials)
-      (All-cons (AreShownRoutes task.instance) end [] tt (All-nil (AreShownRoutes task.instance))))
+      let made = is.searched.made in
+      let tried : All Valid (made.tried ++ made.stop) =
+      All-append Valid made.tried made.stop (trials_valid j is.searched.begins made.trials)
+      (All-ends Asked Valid made.ends tt) in
+      subst (All Valid) (sym is.shown)
+      (All-append Valid (question Asked j true) (is.tried ++ end ∷ []) (All-question Asked Valid j true tt)
+      (All-append Valid is.tried (end ∷ []) (subst (All Valid) (sym made.shown_is) tried)
+      (All-cons Valid end [] tt (All-nil Valid))))
 
   pub runs_valid : {runs : List Run} → AreRuns task given ring runs →
       All (AreShownRoutes task.instance) (shown_of runs)

@@ -1,5 +1,5 @@
 -- The events of a search for routes, which an observer is shown.
-use Rattle.std.specs.Prelude.{ℕ, List, Option}
+use Rattle.std.specs.Prelude.{ℕ, Bool, List, Option}
 use Rattle.tk_route_search.specs.declared.outcome.RouteRun.{RouteRun}
 use Rattle.tk_route_search.specs.declared.watch.RouteProgress.{RouteProgress}
 
@@ -10,3 +10,5 @@ pub data Event : Type 0 where
   Tried : (progress : RouteProgress) (better : Option (List (List ℕ))) → Event
   -- a run that has ended, counted from 1, and its report
   Ended : (run : ℕ) (report : RouteRun) → Event
+  -- its answer to the question whether the search goes on
+  Asked : (goes_on : Bool) → Event

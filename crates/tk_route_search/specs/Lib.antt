@@ -1,6 +1,7 @@
 pub mod Events
 pub mod Ladder
 pub mod Outcomes
+pub mod RunLaws
 pub mod Rungs
 pub mod Runs
 pub mod SolvedRoutes

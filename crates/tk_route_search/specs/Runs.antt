@@ -1,5 +1,5 @@
 -- The runs of a search for routes.
---     Trials task j begun words t shown ended rest      t trials, and the event of each
+--     Trials task j begun words t shown ended rest      t trials, and the events of each
 --     IsRun task given ring j run      run j, counted from 0: its trials from the ring, with random words of its own
 --     AreRuns task given ring runs      runs one after another, from run 0 on
 --     reports_of k runs      the report of each run
@@ -15,14 +15,16 @@ use Rattle.tk_ring_search.specs.Given.{Given}
 use Rattle.tk_ring_search.specs.Searching.{RingSearching, IsBegun, NextTrial}
 use Rattle.tk_ring_search.specs.Totals.{is_better}
 use Rattle.tk_ring_search.specs.declared.trials.totals.RingTrial.{RingTrial}
+use Rattle.tk_solve.specs.Endings.{EndsAfter, question}
 use Rattle.tk_solve.specs.Runs.{words_of}
-use Rattle.tk_route_search.specs.Events.{Event, Ended}
+use Rattle.tk_route_search.specs.Events.{Event, Asked, Ended}
 use Rattle.tk_route_search.specs.Tasks.{RouteTask}
 use Rattle.tk_route_search.specs.Watching.{AreShown, trial_event}
 use Rattle.tk_route_search.specs.declared.outcome.RouteRun.{RouteRun}
 
--- the search of a run after its trials, and its events
+-- the number of the trials of a run, the search after them, and its events
 pub record Run : Type 0 where
+  pub trials : ℕ
   pub ended : RingSearching
   pub shown : List Event
 
@@ -38,7 +40,8 @@ report_of k ended = record {
   totals = ended.totals;
 }
 
--- t trials of a search after its first descent, one after another, and the events of the descent and of each trial
+-- t trials of a search after its first descent, one after another, and the events of the descent and of each trial: the
+-- observer is asked before a trial, and then shown it
 pub data Trials (task : RouteTask) (j : ℕ) (begun : RingSearching) (words : Stream) :
     ℕ → List Event → RingSearching → Stream → Type 0 where
   descended : (better : Option (List (List ℕ))) → AreShown true (customer_count task.instance) begun.best better →
@@ -49,21 +52,34 @@ pub data Trials (task : RouteTask) (j : ℕ) (begun : RingSearching) (words : St
       Trials task j begun words t shown old left → NextTrial old left new rest trial →
       AreShown (is_better trial.outcome) (customer_count task.instance) new.best better →
       Trials task j begun words (t + 1)
-      (shown ++ trial_event task j (t + 1) trial.descent.after new better ∷ []) new rest
+      ((shown ++ Asked true ∷ []) ++ trial_event task j (t + 1) trial.descent.after new better ∷ []) new rest
 
--- a search from a ring after all trials, with the random words of the seed plus j, and its events
+-- the trials of a search that has begun, and its events: those of the first descent and of all trials, unless the
+-- observer said no
+pub record AreTrialsMade (task : RouteTask) (j : ℕ) (begun : RingSearching) (shown : List Event)
+    (ended : RingSearching) : Type 0 where
+  pub count : ℕ
+  pub tried : List Event
+  pub rest : Stream
+  pub trials : Trials task j begun (words_of (task.seed + j)) count tried ended rest
+  pub stop : List Event
+  pub ends : EndsAfter Asked (task.trials + 1) (count + 1) stop
+  pub shown_is : shown ≡ tried ++ stop
+
+-- a search from a ring after its trials, with the random words of the seed plus j, and its events
 pub record IsSearched (task : RouteTask) (given : Given) (ring : List ℕ) (j : ℕ) (shown : List Event)
     (ended : RingSearching) : Type 0 where
   pub begun : RingSearching
   pub begins : IsBegun given ring begun
-  pub rest : Stream
-  pub trials : Trials task j begun (words_of (task.seed + j)) task.trials shown ended rest
+  pub made : AreTrialsMade task j begun shown ended
 
--- run j, counted from 0; its events are those of its descent and its trials, and then its report
+-- run j, counted from 0; its events are the question before it, those of its search, and then its report
 pub record IsRun (task : RouteTask) (given : Given) (ring : List ℕ) (j : ℕ) (run : Run) : Type 0 where
   pub tried : List Event
   pub searched : IsSearched task given ring j tried run.ended
-  pub shown : run.shown ≡ tried ++ Ended (j + 1) (report_of (customer_count task.instance) run.ended) ∷ []
+  pub trials : run.trials ≡ searched.made.count
+  pub shown : run.shown ≡ question Asked j true
+      ++ (tried ++ Ended (j + 1) (report_of (customer_count task.instance) run.ended) ∷ [])
 
 -- runs one after another, from run 0 on
 pub data AreRuns (task : RouteTask) (given : Given) (ring : List ℕ) : List Run → Type 0 where

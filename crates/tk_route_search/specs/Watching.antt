@@ -3,6 +3,8 @@
 --     IsReported shows k progress best is_new old new      an observer was shown a trial
 --     trial_event task j t cost search better      the event of trial t of run j
 --     AreShownRoutes i event      routes that are shown are valid
+--     GoesOn event      it is not the answer no
+--     IsUnobserved old event new      the effect of an event on an observer that does nothing and never says no
 --     WereShown shows old new shown      an observer was shown these events, one after another, and no others
 use Rattle.std.specs.Prelude.{◌≡◌, ℕ, ℤ, ◌+◌, Bool, true, false, List, [], ◌∷◌, ◌++◌, Option, Some, None}
 use Rattle.std.specs.Prelude.{IsSomeAnd, pos}
@@ -11,7 +13,7 @@ use Rattle.tk_rings.specs.RingRoutes.{AreRoutesOf}
 use Rattle.tk_routes.specs.Instance.{Instance}
 use Rattle.tk_routes.specs.Routes.{AreRoutes, routes_cost}
 use Rattle.tk_ring_search.specs.Searching.{RingSearching}
-use Rattle.tk_route_search.specs.Events.{Event, Begun, Tried, Ended}
+use Rattle.tk_route_search.specs.Events.{Event, Begun, Tried, Ended, Asked}
 use Rattle.tk_route_search.specs.Tasks.{RouteTask}
 use Rattle.tk_route_search.specs.declared.watch.RouteProgress.{RouteProgress}
 
@@ -46,6 +48,18 @@ AreShownRoutes i (Begun name) = Unit {0}
 AreShownRoutes i (Tried progress None) = Unit {0}
 AreShownRoutes i (Tried progress (Some routes)) = AreRoutes i routes × (progress.best ≡ pos (routes_cost i routes))
 AreShownRoutes i (Ended run report) = Unit {0}
+AreShownRoutes i (Asked goes_on) = Unit {0}
+
+-- an event that is not the answer no
+abbrev pub GoesOn : Event → Type 0
+GoesOn (Begun name) = Unit {0}
+GoesOn (Tried progress better) = Unit {0}
+GoesOn (Ended run report) = Unit {0}
+GoesOn (Asked goes_on) = goes_on ≡ true
+
+-- the effect of an event on an observer that does nothing and never says no
+abbrev pub IsUnobserved : {W : Type 0} → W → Event → W → Type 0
+IsUnobserved old event new = (new ≡ old) × GoesOn event
 
 -- an observer was shown these events, one after another, and no others
 pub data WereShown {W : Type 0} (shows : W → Event → W → Type 0) (old : W) : W → List Event → Type 0 where

@@ -3,6 +3,7 @@
 
 mod copied;
 mod ladder;
+mod laws;
 mod options;
 mod outcome;
 mod routes;
@@ -10,6 +11,7 @@ mod search;
 mod start;
 mod watch;
 
+pub use laws::{no_observer_ends_no_search, unended_searches_are_whole};
 pub use options::{RouteStart, SearchOptions};
 pub use outcome::RouteRun;
 pub use routes::{SolvedRoutes, search_routes};

@@ -19,7 +19,7 @@ use crate::ladder::cheapest;
 use crate::options::{RouteStart, SearchOptions};
 use crate::outcome::{Outcome, RouteRun};
 use crate::start::filled;
-use crate::watch::RouteWatch;
+use crate::watch::{RouteWatch, is_made};
 use std::alloc::{AllocError, Global};
 use tk_distance::{Euclid, Metric, Sub, Table};
 use tk_near::{Near, near_among};
@@ -42,7 +42,7 @@ pub struct SolvedRoutes {
     pub start_routes: u32,
     /// The length of the near lists that savings routes were made with; `None` for given routes.
     pub candidates: Option<u32>,
-    /// A report of each run. With one customer there are no runs.
+    /// A report of each run that was made. With one customer there are no runs.
     pub runs: Vec<RouteRun>,
 }
 
@@ -70,7 +70,8 @@ fn terms_of<'a, M: Metric>(
     }
 }
 
-/// Makes all runs from a ring, over the distances between its elements and their near lists.
+/// Makes all runs from a ring, unless the observer ends the search, over the distances between its elements and their
+/// near lists.
 fn run_each<M: Metric, W: RouteWatch>(
     alloc: Global,
     cvrp: &Cvrp<'_>,
@@ -95,6 +96,9 @@ fn run_each<M: Metric, W: RouteWatch>(
         capacity: cvrp.capacity() as u64,
     };
     for j in 0..options.runs {
+        if !is_made(j, watch) {
+            break;
+        }
         let terms = terms_of(metric, near, vehicles, options);
         outcome.add_run(alloc, cvrp, terms, ring, options, j, watch)?;
     }
@@ -220,6 +224,9 @@ fn search_from<W: RouteWatch>(
 /// one customer. `watch` is shown the first descent of each run and each trial, with the cost that it ended with, the
 /// best cost of its run up to then, and the best routes if it found them. It is also shown each run after its last
 /// trial, with its report. All this is shown in order, and nothing else is.
+///
+/// `watch` can end the search: it is asked before each trial, and before each run but the first, whether the search
+/// goes on. So the first descent of the first run is always made.
 ///
 /// # Errors
 /// `AllocError` if memory runs out.

@@ -1,15 +1,13 @@
 //! One run: the first descent and the trials of a search from a ring.
-ghost use Rattle.std.specs.Prelude.{◌≡◌, ◌+◌, ◌<◌, ℕ, IfOk, OnOk, List, length};
-ghost use Rattle.rand_core.specs.Stream.{Stream};
+ghost use Rattle.std.specs.Prelude.{◌≡◌, ◌<◌, ℕ, IfOk, OnOk, List, length};
 ghost use Rattle.tk_routes.specs.Cvrps.{instance_of};
 ghost use Rattle.tk_routes.specs.Instance.{customer_count};
 ghost use Rattle.tk_ring_search.specs.Given.{given_of};
 ghost use Rattle.tk_ring_search.specs.SearchOf.{search_of};
 ghost use Rattle.tk_ring_search.specs.Searching.{IsBegun};
 ghost use Rattle.tk_ring_search.specs.Totals.{is_better};
-ghost use Rattle.tk_solve.specs.Runs.{words_of};
 ghost use Rattle.tk_route_search.specs.Events.{Event};
-ghost use Rattle.tk_route_search.specs.Runs.{IsSearched, Trials};
+ghost use Rattle.tk_route_search.specs.Runs.{AreTrialsMade, IsSearched};
 ghost use Rattle.tk_route_search.specs.Tasks.{IsInput, IsRing, task_of};
 ghost use Rattle.tk_route_search.specs.Watching.{IsReported, WereShown};
 
@@ -53,8 +51,8 @@ fn is_better(outcome: Outcome) -> bool
     matches!(outcome, Outcome::Better)
 }
 
-/// Makes the trials of run j, counted from 0, whose search has begun. Shows its first descent and each trial to the
-/// observer.
+/// Makes the trials of run j, counted from 0, whose search has begun, unless the observer ends them. Shows its first
+/// descent and each trial to the observer.
 fn make_trials<M: Metric, W: RouteWatch>(
     alloc: Global,
     cvrp: &Cvrp<'_>,
@@ -66,9 +64,9 @@ fn make_trials<M: Metric, W: RouteWatch>(
     requires run { j < options.now.runs }
     requires begun { (ring : List ℕ) × (IsInput (task_of cvrp.now options.now) ring (search_of search.old).given
         × IsBegun (search_of search.old).given ring (search_of search.old)) }
-    ensures trials { OnOk result ((shown : List Event) × ((rest : Stream)
-        × (Trials (task_of cvrp.now options.now) j (search_of search.old) (words_of (options.now.seed + j))
-        options.now.trials shown (search_of search.new) rest × WereShown W.shows watch.old watch.new shown))) }
+    ensures trials { OnOk result ((shown : List Event)
+        × (AreTrialsMade (task_of cvrp.now options.now) j (search_of search.old) shown (search_of search.new)
+        × WereShown W.shows watch.old watch.new shown)) }
 {
     let mut generator = Pcg32::seed_from_u64(options.seed as u64 + j as u64);
     let first = RouteProgress {
@@ -81,6 +79,9 @@ fn make_trials<M: Metric, W: RouteWatch>(
     };
     tell(alloc, cvrp, &first, search.best(), true, watch)?;
     for trial in 0..options.trials {
+        if !watch.goes_on() {
+            break;
+        }
         let Some(report) = search.trial(&mut generator) else {
             break;
         };
@@ -96,7 +97,8 @@ fn make_trials<M: Metric, W: RouteWatch>(
     Ok(())
 }
 
-/// The search of run j, counted from 0, after its trials. The observer has been shown its first descent and each trial.
+/// The search of run j, counted from 0, after its trials: all of them, unless the observer ends them. The observer has
+/// been shown its first descent and each trial.
 pub(crate) fn search_run<'a, M: Metric, W: RouteWatch>(
     alloc: Global,
     cvrp: &Cvrp<'_>,

@@ -1,7 +1,9 @@
 //! Observers of a search for routes.
-ghost use Rattle.std.specs.Prelude.{◌≡◌, option_map};
+ghost use Rattle.std.specs.Prelude.{◌≡◌, option_map, true};
 ghost use Rattle.tk_lists.specs.Solution.{lists_of};
-ghost use Rattle.tk_route_search.specs.Events.{Begun, Tried, Ended};
+ghost use Rattle.tk_solve.specs.Endings.{question};
+ghost use Rattle.tk_route_search.specs.Events.{Asked, Begun, Ended, Tried};
+ghost use Rattle.tk_route_search.specs.Watching.{IsUnobserved, WereShown};
 
 use crate::outcome::RouteRun;
 
@@ -22,7 +24,7 @@ pub struct RouteProgress {
     pub best: i64,
 }
 
-/// An observer, which is notified of the progress and the best routes of a search and has no influence on it.
+/// An observer, which is notified of the progress and the best routes of a search, and can end it.
 pub trait RouteWatch {
     ghost use Rattle.tk_route_search.specs.Events.{Event};
 
@@ -41,18 +43,38 @@ pub trait RouteWatch {
     /// Takes note of a run that has ended; runs are counted from 1.
     fn end_run(&mut self, run: u32, report: &RouteRun)
         ensures { shows self.old (Ended run report.now) self.new };
+
+    /// Whether the search goes on. This is asked before each trial, and before each run but the first: if the answer is
+    /// no, that trial and the later ones of its run, or that run and the later ones, are not made.
+    fn goes_on(&mut self) -> bool
+        ensures { shows self.old (Asked result) self.new };
 }
 
-/// An observer that does nothing.
+/// Whether run j, counted from 0, is made. The observer is asked, unless it is the first.
+pub(crate) fn is_made<W: RouteWatch>(j: u32, watch: &mut W) -> bool
+    ensures asked { WereShown W.shows watch.old watch.new (question Asked j result) }
+    ensures first { j ≡ 0 → result ≡ true }
+{
+    if j == 0 {
+        return true;
+    }
+    watch.goes_on()
+}
+
+/// An observer that does nothing and never ends a search.
 #[derive(Clone, Copy)]
 pub struct NoObserver;
 
 impl RouteWatch for NoObserver {
-    ghost shows = { λ old _ new. new ≡ old };
+    ghost shows = { IsUnobserved };
 
     fn begin(&mut self, _name: &[u8]) {}
 
     fn trial(&mut self, _progress: &RouteProgress, _better: Option<&[Vec<u32>]>) {}
 
     fn end_run(&mut self, _run: u32, _report: &RouteRun) {}
+
+    fn goes_on(&mut self) -> bool {
+        true
+    }
 }

@@ -24,4 +24,8 @@ impl RouteWatch for Counts {
     fn end_run(&mut self, _run: u32, _report: &RouteRun) {
         self.runs = self.runs.saturating_add(1);
     }
+
+    fn goes_on(&mut self) -> bool {
+        true
+    }
 }

@@ -1,3 +1,4 @@
+pub mod Endings
 pub mod OutcomeFacts
 pub mod TourEntries
 pub mod FirstShortest
@@ -5,4 +6,5 @@ pub mod ShownTours
 pub mod RunsSoFar
 pub mod ResultsOfRuns
 pub mod EuclidTables
+pub mod Unended
 pub mod Watched

@@ -14,12 +14,15 @@ use Rattle.tk_search.specs.SearchLaws.{IsFirstShortest}
 use Rattle.tk_search.specs.Totals.{IsBounded}
 use Rattle.tk_search.proofs.SearchTrials.BoundedRuns.{bounded_run}
 use Rattle.tk_search.proofs.SearchTrials.Runs.{given_run}
+use Rattle.tk_solve.specs.Events.{Event, Asked}
+use Rattle.tk_solve.specs.Outcomes.{AreMade}
 use Rattle.tk_solve.specs.Runs.{Run, IsRun, AreRuns, none, more, best_tours, report_of, run_length}
-use Rattle.tk_solve.specs.SolvedTours.{IsBoundedReport, IsSound}
+use Rattle.tk_solve.specs.SolvedTours.{IsBoundedReport, IsSolved, IsSound}
 use Rattle.tk_solve.specs.Starts.{TourTask, AreCandidates}
 use Rattle.tk_solve.specs.declared.outcome.Outcome.{Outcome}
 use Rattle.tk_solve.specs.declared.outcome.RunReport.{RunReport}
 use Rattle.tk_solve.specs.declared.tour.SolvedTour.{SolvedTour}
+use Rattle.tk_solve.proofs.Endings.{ends_some}
 use Rattle.tk_solve.proofs.RunsSoFar.{ended_tour}
 use Rattle.tk_solve.proofs.Watched.{run_of}
 
@@ -115,3 +118,25 @@ IfOk-sound (Ok s) task near runs winner outcome symmetric candidates are first r
     ∙ ap pos (sym (length-cycle task.distance symmetric winner s.cities.items printed.cycle)))
 IfOk-sound (Err e) task near runs winner outcome symmetric candidates are first reported shown printed length_is tour =
     tt
+
+-- the result of the runs, likewise
+pub IfOk-solved : {E : Type 0} (r : Result SolvedTour E) (task : TourTask) (near : NearLists)
+    (Watched : List Event → Type 0) (outcome : Outcome) → AreCandidates task near → AreMade task near Watched outcome →
+    1 ≤ task.runs → IfOk r (λ s. s.runs ≡ outcome.reports) →
+    IfOk r (λ s. IsPrintedForm outcome.cities.items s.cities.items) →
+    IfOk r (λ s. s.length ≡ pos (tour_length task.distance s.cities.items)) → IfOk r (IsSolved task Watched)
+IfOk-solved (Ok s) task near Watched outcome candidates made some shown printed length_is = record {
+  near = near;
+  candidates = candidates;
+  runs = made.runs;
+  are = made.kept.are;
+  stop = made.stop;
+  ends = made.ends;
+  reports = ap (λ v. v.items) shown ∙ made.kept.reports_are;
+  winner = outcome.cities.items;
+  first = made.kept.first (ends_some Asked made.ends some);
+  printed = printed;
+  length_is = length_is;
+  watched = made.watched;
+}
+IfOk-solved (Err e) task near Watched outcome candidates made some shown printed length_is = tt

@@ -1,6 +1,6 @@
 -- What is kept of the runs so far, when one more comes.
-use Rattle.std.proofs.Common.{◌≡◌, ◌≢◌, ℕ, ℤ, pos, ◌+◌, ◌<◌, ◌≤◌, ⊎_elim, List, [], ◌∷◌, ◌++◌, length, refl, sym, ap}
-use Rattle.std.proofs.Common.{◌∙◌, subst, arith}
+use Rattle.std.proofs.Common.{◌≡◌, ◌≢◌, ℕ, ℤ, pos, ◌+◌, ◌<◌, ◌≤◌, true, ⊎_elim, List, [], ◌∷◌, ◌++◌, length, refl, sym}
+use Rattle.std.proofs.Common.{ap, ◌∙◌, subst, arith}
 use Rattle.std.specs.Prelude.{◌<ℤ◌, ◌≤ℤ◌}
 use Rattle.std.proofs.lemmas.Bool.{cases_lt}
 use Rattle.std.proofs.lemmas.Int.{ints}
@@ -12,7 +12,8 @@ use Rattle.tk_search.specs.Searching.{Searching}
 use Rattle.tk_search.proofs.SearchTrials.Cities.{tour_after}
 use Rattle.tk_solve.specs.declared.outcome.Outcome.{Outcome}
 use Rattle.tk_solve.specs.declared.outcome.RunReport.{RunReport}
-use Rattle.tk_solve.specs.Events.{Event, Ended}
+use Rattle.tk_solve.specs.Endings.{question}
+use Rattle.tk_solve.specs.Events.{Event, Asked, Ended}
 use Rattle.tk_solve.specs.Outcomes.{IsRunAdded, IsTaken}
 use Rattle.tk_solve.specs.Runs.{Run, IsRun, IsSearched, none, more, AreSoFar, best_tours, run_length, report_of}
 use Rattle.tk_solve.specs.Starts.{TourTask, IsStart}
@@ -115,14 +116,15 @@ pub run_added : (task : TourTask) (near : NearLists) (j : ℕ) (start : List ℕ
     (old new : Outcome) →
     IsTaken task.distance ended old new → IsRunAdded task near j Watched old new
 run_added task near j start tried ended begins searched tour Watched watched old new taken runs count kept =
+    let after : List Event =
+    tried ++ Ended (j + 1) (record { best = pos (tour_length task.distance ended.best); totals = ended.totals }) ∷ [] in
     let run : Run =
     record {
       start = start;
+      trials = searched.made;
       best = ended.best;
       totals = ended.totals;
-      shown =
-          tried ++ Ended (j + 1) (record { best = pos (tour_length task.distance ended.best); totals = ended.totals })
-          ∷ [];
+      shown = question Asked j true ++ after;
     } in
     let is : IsRun task near j run =
     record {
@@ -131,6 +133,7 @@ run_added task near j start tried ended begins searched tour Watched watched old
       tried = tried;
       ended = ended;
       searched = searched;
+      trials = refl;
       best = refl;
       totals = refl;
       shown = refl;
@@ -148,6 +151,6 @@ run_added task near j start tried ended begins searched tour Watched watched old
       (
         subst (λ v. AreSoFar task near (runs ++ run ∷ []) v new.cities.items new.shortest) (sym taken.reports)
             more,
-        watched,
+        (after, (refl, watched)),
       ),
     )

@@ -1,5 +1,5 @@
 -- The events of a search, which an observer is shown.
-use Rattle.std.specs.Prelude.{ℕ, List}
+use Rattle.std.specs.Prelude.{ℕ, Bool, List}
 use Rattle.tk_solve.specs.declared.outcome.RunReport.{RunReport}
 use Rattle.tk_solve.specs.declared.watch.Progress.{Progress}
 
@@ -10,3 +10,5 @@ pub data Event : Type 0 where
   Tried : (progress : Progress) (best : List ℕ) → Event
   -- a run that has ended, counted from 1, and its report
   Ended : (run : ℕ) (report : RunReport) → Event
+  -- its answer to the question whether the search goes on
+  Asked : (goes_on : Bool) → Event

@@ -1,7 +1,7 @@
 -- The result of a search for a tour.
 --     IsSolved task Watched solved      the best tour of the runs, a report of each, and their events
 --     IsSound task solved      properties of the tour and of the reports, whatever the runs were
-use Rattle.std.specs.Prelude.{◌≡◌, ◌≤ℤ◌, ℕ, ◌-◌, List, All, length, map, min, pos}
+use Rattle.std.specs.Prelude.{◌≡◌, ◌≤ℤ◌, ℕ, ◌-◌, List, ◌++◌, All, length, map, min, pos}
 use Rattle.std.specs.Int.RustNames.{unsigned_abs}
 use Rattle.tk_near.specs.Near.{NearLists}
 use Rattle.tk_tour.specs.Printed.{IsPrintedForm}
@@ -10,24 +10,27 @@ use Rattle.tk_search.specs.SearchLaws.{IsFirstShortest}
 use Rattle.tk_search.specs.Totals.{IsBounded}
 use Rattle.tk_solve.specs.declared.outcome.RunReport.{RunReport}
 use Rattle.tk_solve.specs.declared.tour.SolvedTour.{SolvedTour}
-use Rattle.tk_solve.specs.Events.{Event}
+use Rattle.tk_solve.specs.Endings.{EndsAfter}
+use Rattle.tk_solve.specs.Events.{Event, Asked}
 use Rattle.tk_solve.specs.Runs.{Run, AreRuns, best_tours, report_of, shown_of}
 use Rattle.tk_solve.specs.Starts.{TourTask, AreCandidates}
 
--- the requested runs, each with its report, and the shortest of their best tours, the earliest one if there are
--- several, in canonical form; the events satisfy Watched: the trials of each run and its end, in order, and no others
+-- The requested runs, or those before the observer said no, each with its report, and the shortest of their best tours,
+-- the earliest one if there are several, in canonical form. The events satisfy Watched: the trials of each run and its
+-- end, and the questions between them, in order, and no others.
 pub record IsSolved (task : TourTask) (Watched : List Event → Type 0) (solved : SolvedTour) : Type 0 where
   pub near : NearLists
   pub candidates : AreCandidates task near
   pub runs : List Run
   pub are : AreRuns task near runs
-  pub count : length runs ≡ task.runs
+  pub stop : List Event
+  pub ends : EndsAfter Asked task.runs (length runs) stop
   pub reports : solved.runs.items ≡ map (report_of task.distance) runs
   pub winner : List ℕ
   pub first : IsFirstShortest task.distance (best_tours runs) winner
   pub printed : IsPrintedForm winner solved.cities.items
   pub length_is : solved.length ≡ pos (tour_length task.distance solved.cities.items)
-  pub watched : Watched (shown_of runs)
+  pub watched : Watched (shown_of runs ++ stop)
 
 -- the work of a run is bounded, and its best tour is not longer than its start
 abbrev pub IsBoundedReport : TourTask → RunReport → Type 0

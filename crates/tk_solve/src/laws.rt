@@ -5,3 +5,13 @@ ghost use Rattle.tk_solve.specs.RunLaws as laws;
 pub fn shown_tours_are_tours()
     ensures { laws.ShownToursAreTours }
 {}
+
+/// A law: if the observer of a search never ends it, all runs are made, and each makes all its trials.
+pub fn unended_searches_are_whole()
+    ensures { laws.UnendedSearchesAreWhole }
+{}
+
+/// A law: [`crate::NoObserver`] never ends a search.
+pub fn no_observer_ends_no_search()
+    ensures { laws.NoObserverEndsNoSearch }
+{}

@@ -10,7 +10,7 @@ mod starts;
 mod tour;
 mod watch;
 
-pub use laws::shown_tours_are_tours;
+pub use laws::{no_observer_ends_no_search, shown_tours_are_tours, unended_searches_are_whole};
 pub use options::{RouteOptions, Start, TourOptions};
 pub use outcome::RunReport;
 pub use routes::solve_routes;

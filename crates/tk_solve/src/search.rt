@@ -8,7 +8,7 @@ ghost use Rattle.tk_solve.specs.Starts.{task_over};
 ghost use Rattle.tk_solve.specs.Watching.{WereShown};
 
 use crate::options::TourOptions;
-use crate::watch::{Progress, Watch};
+use crate::watch::{Progress, Watch, is_made};
 use rand_core::SeedableRng;
 use rand_pcg::Pcg32;
 use std::alloc::{AllocError, Global};
@@ -17,7 +17,8 @@ use tk_near::Near;
 use tk_search::Search;
 use tk_tour::ArrayTour;
 
-/// The search of run j, counted from 0, after its trials. The observer has been shown each trial.
+/// The search of run j, counted from 0, after its trials: all of them, unless the observer ends them. The observer has
+/// been shown each trial.
 pub(crate) fn search_run<'a, M: Metric, W: Watch>(
     alloc: Global,
     metric: &'a M,
@@ -37,6 +38,9 @@ pub(crate) fn search_run<'a, M: Metric, W: Watch>(
     let mut search = Search::new(alloc, metric, near, start, options.rules)?;
     let mut generator = Pcg32::seed_from_u64(options.seed as u64 + j as u64);
     for trial in 0..trials {
+        if !is_made(trial, watch) {
+            break;
+        }
         let report = search.trial(&mut generator);
         let progress = Progress {
             run: j + 1,

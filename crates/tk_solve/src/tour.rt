@@ -1,10 +1,9 @@
 //! The runs of a search for a tour.
-ghost use Rattle.std.specs.Prelude.{◌≡◌, ◌≤◌, IfOk, List, length, option_map, pos};
+ghost use Rattle.std.specs.Prelude.{◌≡◌, ◌≤◌, IfOk, option_map, pos};
 ghost use Rattle.tk_distance.specs.Tables.{table_size, table_distance};
 ghost use Rattle.tk_tour.specs.Printed.{IsPrintedForm};
 ghost use Rattle.tk_tour.specs.Tour.{IsTour, tour_length};
-ghost use Rattle.tk_solve.specs.Outcomes.{AreKept};
-ghost use Rattle.tk_solve.specs.Runs.{Run, shown_of};
+ghost use Rattle.tk_solve.specs.Outcomes.{AreMade};
 ghost use Rattle.tk_solve.specs.SolvedTours.{IsSolved, IsSound};
 ghost use Rattle.tk_solve.specs.Starts.{IsCommonStart, IsGivenTour, task_of};
 ghost use Rattle.tk_solve.specs.Watching.{WereShown};
@@ -12,7 +11,7 @@ ghost use Rattle.tk_solve.specs.Watching.{WereShown};
 use crate::options::TourOptions;
 use crate::outcome::{Outcome, RunReport};
 use crate::starts::{common_start, savings_start, start_of};
-use crate::watch::Watch;
+use crate::watch::{Watch, is_made};
 use std::alloc::{AllocError, Global};
 use tk_distance::{Metric, Table};
 use tk_near::{Near, near_lists};
@@ -26,7 +25,7 @@ pub struct SolvedTour {
     pub cities: Vec<u32>,
     /// Its length.
     pub length: i64,
-    /// A report of each run.
+    /// A report of each run that was made.
     pub runs: Vec<RunReport>,
 }
 
@@ -51,7 +50,8 @@ fn solved(alloc: Global, table: &Table<'_>, outcome: Outcome) -> Result<SolvedTo
     })
 }
 
-/// Makes all runs. Each begins with the common start or, if there is none, with a nearest-neighbour tour of its own.
+/// Makes all runs, unless the observer ends the search. Each begins with the common start or, if there is none, with a
+/// nearest-neighbour tour of its own.
 fn run_all<W: Watch>(
     alloc: Global,
     table: &Table<'_>,
@@ -63,12 +63,14 @@ fn run_all<W: Watch>(
     requires some { 1 ≤ table_size table.now }
     requires size { near.now.size ≡ table_size table.now }
     requires start { IsCommonStart (task_of table.now options.now) near.now (option_map (λ c. c.now) common) }
-    ensures { IfOk result (λ o. (runs : List Run) × (length runs ≡ options.now.runs)
-        × (AreKept (task_of table.now options.now) near.now runs o
-        × WereShown W.shows watch.old watch.new (shown_of runs))) }
+    ensures { IfOk result
+        (AreMade (task_of table.now options.now) near.now (WereShown W.shows watch.old watch.new)) }
 {
     let mut outcome = Outcome::new(alloc);
     for j in 0..options.runs {
+        if !is_made(j, watch) {
+            break;
+        }
         let start = start_of(alloc, table, common, j)?;
         outcome.add_run(alloc, table, near, start, options, j, watch)?;
     }
@@ -79,6 +81,9 @@ fn run_all<W: Watch>(
 /// there are fewer than 8 cities. `watch` is shown each trial, with the length of the tour that it ended with and the
 /// best tour of its run up to then. It is also shown each run after its last trial, with its report. All this is shown
 /// in order, and nothing else is.
+///
+/// `watch` can end the search: it is asked before each trial of a run but its first, and before each run but the first,
+/// whether the search goes on. So there is always a tour.
 ///
 /// # Errors
 /// `AllocError` if memory runs out.

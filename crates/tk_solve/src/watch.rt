@@ -1,6 +1,8 @@
 //! Observers of a search.
-ghost use Rattle.std.specs.Prelude.{◌≡◌};
-ghost use Rattle.tk_solve.specs.Events.{Begun, Tried, Ended};
+ghost use Rattle.std.specs.Prelude.{◌≡◌, true};
+ghost use Rattle.tk_solve.specs.Endings.{question};
+ghost use Rattle.tk_solve.specs.Events.{Asked, Begun, Ended, Tried};
+ghost use Rattle.tk_solve.specs.Watching.{IsUnobserved, WereShown};
 
 use crate::outcome::RunReport;
 
@@ -21,7 +23,7 @@ pub struct Progress {
     pub best: i64,
 }
 
-/// An observer, which is notified of the progress and the best tour of a search and has no influence on it.
+/// An observer, which is notified of the progress and the best tour of a search, and can end it.
 pub trait Watch {
     ghost use Rattle.tk_solve.specs.Events.{Event};
 
@@ -39,18 +41,39 @@ pub trait Watch {
     /// Takes note of a run that has ended; runs are counted from 1.
     fn end_run(&mut self, run: u32, report: &RunReport)
         ensures { shows self.old (Ended run report.now) self.new };
+
+    /// Whether the search goes on. This is asked before each trial of a run but its first, and before each run but the
+    /// first: if the answer is no, that trial and the later ones of its run, or that run and the later ones, are not
+    /// made.
+    fn goes_on(&mut self) -> bool
+        ensures { shows self.old (Asked result) self.new };
 }
 
-/// An observer that does nothing.
+/// Whether trial t of a run or run t, counted from 0, is made. The observer is asked, unless it is the first.
+pub(crate) fn is_made<W: Watch>(t: u32, watch: &mut W) -> bool
+    ensures asked { WereShown W.shows watch.old watch.new (question Asked t result) }
+    ensures first { t ≡ 0 → result ≡ true }
+{
+    if t == 0 {
+        return true;
+    }
+    watch.goes_on()
+}
+
+/// An observer that does nothing and never ends a search.
 #[derive(Clone, Copy)]
 pub struct NoObserver;
 
 impl Watch for NoObserver {
-    ghost shows = { λ old _ new. new ≡ old };
+    ghost shows = { IsUnobserved };
 
     fn begin(&mut self, _name: &[u8]) {}
 
     fn trial(&mut self, _progress: &Progress, _best: &[u32]) {}
 
     fn end_run(&mut self, _run: u32, _report: &RunReport) {}
+
+    fn goes_on(&mut self) -> bool {
+        true
+    }
 }

@@ -5,7 +5,7 @@ use Rattle.tk_text.specs.Problem.{ProblemIs, RoutingIs, problem_texts}
 use Rattle.tk_text.specs.Solution.{Solution, solution_texts}
 use Rattle.tk_words.specs.declared.sources.source.Source as sources
 use Rattle.tk_writers.specs.declared.output.sink.Sink as sinks
-use Rattle.tk_route_search.specs.Watching.{WereShown}
+use Rattle.tk_route_search.specs.Watching.{IsUnobserved, WereShown}
 use Rattle.tk_route_search.specs.declared.watch.NoObserver.{NoObserver}
 use Rattle.tk_engines.specs.Between.{IsStartFault, ReadsStart, between_files_task}
 use Rattle.tk_engines.specs.Engine.{IsGiven, ReadsProblem}
@@ -34,7 +34,7 @@ start_says given source old new text (Some solution) e h =
 pub between_said : {S I F W : Type 0} (source : sources.Ghosts S) (old new : S) (initials : sources.Ghosts I)
     (initial_old initial_new : I) (files : sinks.Ghosts F) (file file' : F) (outs : sinks.Ghosts W) (out out' : W)
     (o : BetweenOptions) (before after : NoObserver) (problem initial items lines : List ℕ)
-    → IsGiven (between_files_task o (WereShown (λ old event new. new ≡ old) before after))
+    → IsGiven (between_files_task o (WereShown IsUnobserved before after))
     (ReadsProblem source old new) (λ _. ReadsStart o.from_solution initials initial_old initial_new)
     (WritesFiles files outs file file' out out' (Ok tt)) tt
     → source.left old ≡ Some problem → initials.left initial_old ≡ Some initial
@@ -43,7 +43,7 @@ pub between_said : {S I F W : Type 0} (source : sources.Ghosts S) (old new : S) 
     → AreSolvedBy o problem initial (record { file = items; out = lines })
 between_said source old new initials initial_old initial_new files file file' outs out out' o before after problem
     initial items lines h e f g i j k =
-    let task = between_files_task o (WereShown (λ old event new. new ≡ old) before after) in
+    let task = between_files_task o (WereShown IsUnobserved before after) in
     let same = files_same h.text items lines
     (appended (files.taken file) (files.taken file') h.text.file items g i h.written.0.0)
     (appended (outs.taken out) (outs.taken out') h.text.out lines j k h.written.1.0) in

@@ -9,7 +9,7 @@ use Rattle.tk_engines.specs.Requested.{ParamsAre}
 use Rattle.tk_engines.specs.Engine.{IsGiven, ReadsProblem}
 use Rattle.tk_engines.specs.Solve.{Files, IsInitial, ReadsInitial, WritesFiles, solve_task}
 use Rattle.tk_engines.specs.declared.fault.Fault.{Fault}
-use Rattle.tk_solve.specs.Watching.{WereShown}
+use Rattle.tk_solve.specs.Watching.{IsUnobserved, WereShown}
 use Rattle.tk_solve.specs.declared.watch.NoObserver.{NoObserver}
 use Rattle.tourkit_c.proofs.PlotTexts.{appended}
 use Rattle.tourkit_c.proofs.EngineStops.{tour_stop}
@@ -35,7 +35,7 @@ files_same f file out e i =
 pub solve_said : {S I F W : Type 0} (source : sources.Ghosts S) (old new : S) (initials : sources.Ghosts I)
     (initial_old initial_new : I) (files : sinks.Ghosts F) (file file' : F) (outs : sinks.Ghosts W) (out out' : W)
     (params : ParamsAre) (before after : NoObserver) (problem initial items lines : List ℕ)
-    → IsGiven (solve_task params (WereShown (λ old event new. new ≡ old) before after))
+    → IsGiven (solve_task params (WereShown IsUnobserved before after))
     (ReadsProblem source old new)
     (λ _. ReadsInitial (is_some params.initial_tour_file) initials initial_old initial_new)
     (WritesFiles files outs file file' out out' (Ok tt)) tt
@@ -45,7 +45,7 @@ pub solve_said : {S I F W : Type 0} (source : sources.Ghosts S) (old new : S) (i
     → IsSolvedBy params problem initial (record { file = items; out = lines })
 solve_said source old new initials initial_old initial_new files file file' outs out out' params before after problem
     initial items lines h e f g i j k =
-    let task = solve_task params (WereShown (λ old event new. new ≡ old) before after) in
+    let task = solve_task params (WereShown IsUnobserved before after) in
     let same = files_same h.text items lines
     (appended (files.taken file) (files.taken file') h.text.file items g i h.written.0.0)
     (appended (outs.taken out) (outs.taken out') h.text.out lines j k h.written.1.0) in

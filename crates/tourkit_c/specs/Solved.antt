@@ -6,7 +6,7 @@ use Rattle.tk_engines.specs.Requested.{ParamsAre}
 use Rattle.tk_engines.specs.Params.{params_answer, params_texts}
 use Rattle.tk_words.specs.declared.fault.TextFault.{TextFault}
 use Rattle.tk_params.specs.declared.fault.ParamFault.{ParamFault}
-use Rattle.tk_solve.specs.Watching.{WereShown}
+use Rattle.tk_solve.specs.Watching.{IsUnobserved, WereShown}
 use Rattle.tk_solve.specs.declared.watch.NoObserver.{NoObserver}
 use Rattle.tk_engines.specs.Solve.{Files, IsInitial, solve_task, unfit_key}
 use Rattle.tk_engines.specs.declared.fault.Fault.{Fault}
@@ -22,7 +22,7 @@ InitialSays given text None = given ≡ false
 InitialSays given text (Some cities) = (given ≡ true) × TextSays tour_texts text cities
 
 -- the output of a search with these parameters, for a problem and an initial tour: the text of the tour or of the
--- solution, and the lines that are printed. The observer of the search does nothing
+-- solution, and the lines that are printed. The observer of the search does nothing, so the search is whole
 pub record IsSolvedBy (p : ParamsAre) (problem initial : List ℕ) (files : Files) : Type 0 where
   pub q : ProblemIs
   pub tour : Option (List ℕ)
@@ -31,7 +31,7 @@ pub record IsSolvedBy (p : ParamsAre) (problem initial : List ℕ) (files : File
   pub together : IsInitial q tour None
   pub before : NoObserver
   pub after : NoObserver
-  pub gives : (solve_task p (WereShown (λ old event new. new ≡ old) before after)).Gives q tour tt files
+  pub gives : (solve_task p (WereShown IsUnobserved before after)).Gives q tour tt files
 
 pub record IsSolvedOf (parameters problem initial : List ℕ) (files : Files) : Type 0 where
   pub p : ParamsAre

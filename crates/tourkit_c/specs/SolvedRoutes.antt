@@ -4,7 +4,7 @@ use Rattle.tk_near.specs.ListLengths.{IsListLength}
 use Rattle.tk_text.specs.Problem.{ProblemIs, problem_texts}
 use Rattle.tk_text.specs.Solution.{Solution, solution_texts}
 use Rattle.tk_words.specs.declared.fault.TextFault.{TextFault}
-use Rattle.tk_route_search.specs.Watching.{WereShown}
+use Rattle.tk_route_search.specs.Watching.{IsUnobserved, WereShown}
 use Rattle.tk_route_search.specs.declared.watch.NoObserver.{NoObserver}
 use Rattle.tk_engines.specs.Between.{IsStartFault, between_files_task}
 use Rattle.tk_engines.specs.ReadProblems.{instance_in}
@@ -53,7 +53,7 @@ abbrev pub IsStartOf : ProblemIs → Option Solution → Option Fault → Type 0
 IsStartOf q start fault = IsSomeAnd q.routing (λ r. IsStartFault (instance_in q r) start fault)
 
 -- the output of a search with these options, for a problem and an initial solution: the text of the solution, and the
--- lines that are printed. The observer of the search does nothing
+-- lines that are printed. The observer of the search does nothing, so the search is whole
 pub record AreSolvedBy (o : BetweenOptions) (problem initial : List ℕ) (files : Files) : Type 0 where
   pub q : ProblemIs
   pub start : Option Solution
@@ -62,7 +62,7 @@ pub record AreSolvedBy (o : BetweenOptions) (problem initial : List ℕ) (files 
   pub together : IsStartOf q start None
   pub before : NoObserver
   pub after : NoObserver
-  pub gives : (between_files_task o (WereShown (λ old event new. new ≡ old) before after)).Gives q start tt files
+  pub gives : (between_files_task o (WereShown IsUnobserved before after)).Gives q start tt files
 
 -- like AreSolvedBy, for options that the caller has passed
 abbrev pub AreSolvedOf : RouteOptions → List ℕ → List ℕ → Files → Type 0

@@ -14,7 +14,8 @@ use Rattle.tk_routes.specs.declared.solving.route_report.RouteReport.{RouteRepor
 use Rattle.tk_route_search.specs.declared.outcome.RouteRun.{RouteRun}
 use Rattle.tk_route_search.specs.declared.routes.SolvedRoutes.{SolvedRoutes}
 use Rattle.tk_solve.specs.Runs.{report_of}
-use Rattle.tk_solve.specs.Events.{Event}
+use Rattle.tk_solve.specs.Events.{Event, Asked}
+use Rattle.tk_solve.proofs.Endings.{ends_within}
 use Rattle.tk_solve.specs.SolvedTours.{IsSolved}
 use Rattle.tk_solve.specs.Starts.{TourTask}
 use Rattle.tk_solve.specs.declared.outcome.RunReport.{RunReport}
@@ -86,11 +87,11 @@ search_lines_short ks (Found found) few = tour_lines_short ks found.solved few f
 search_lines_short ks (Routes found) few = route_lines_short ks (length found.routes.items) found.report few
 search_lines_short ks (Between found) few = between_lines_short ks found.solved few found.few_runs
 
--- as many reports as runs
+-- no more reports than runs
 pub IfOk-count : {E : Type 0} (r : Result SolvedTour E) (task : TourTask) (Watched : List Event → Type 0) (most : ℕ) →
     task.runs ≤ most → IfOk r (IsSolved task Watched) → IfOk r (λ s. length s.runs.items ≤ most)
 IfOk-count (Ok s) task Watched most few h =
-    omega (arith, few, h.count, ap length h.reports ∙ length-map h.runs (report_of task.distance))
+    omega (arith, few, ends_within Asked h.ends, ap length h.reports ∙ length-map h.runs (report_of task.distance))
 IfOk-count (Err e) task Watched most few h = tt
 
 -- no more filled lists than entries

@@ -109,7 +109,8 @@ pub fn search_between<I: Source, V: RouteWatch>(
 ///
 /// `initial` is read if the runs begin with an initial solution. `watch` is shown the name of the problem, then the
 /// first descent of each run and each trial, with the best routes of its run if it found them, and each run after its
-/// last trial. All this is shown in order, and nothing else is.
+/// last trial. All this is shown in order, and nothing else is. Before each trial and between runs, `watch` can end the
+/// search.
 ///
 /// # Errors
 /// The fault of the problem text; `WrongType` if the problem has no routing; the fault of the text of the initial

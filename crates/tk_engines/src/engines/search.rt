@@ -159,7 +159,8 @@ fn search_from<I: Source, V: Watch>(
 ///
 /// `initial` is read if the parameters name an INITIAL_TOUR_FILE. In a search for a tour, `watch` is shown the name of
 /// the problem, then each trial with the best tour of its run up to then, and each run after its last trial. All this
-/// is shown in order, and nothing else is. In a search for routes, `watch` is shown nothing.
+/// is shown in order, and nothing else is. Between trials and between runs, `watch` can end the search. In a search for
+/// routes, `watch` is shown nothing.
 ///
 /// # Errors
 /// The fault of the problem text; `NotForType` for a key that does not apply to the problem's type; the fault of the

@@ -10,9 +10,10 @@ use Rattle.tk_rings.specs.RingRoutes.{ring_distance}
 use Rattle.tk_solve.proofs.TourEntries.{cities_of_tour}
 use Rattle.tk_tour.specs.Tour.{tour_length}
 use Rattle.tk_route_search.specs.declared.outcome.Outcome.{Outcome}
-use Rattle.tk_route_search.specs.Events.{Event}
+use Rattle.tk_solve.proofs.Endings.{ends_whole}
+use Rattle.tk_route_search.specs.Events.{Event, Asked}
 use Rattle.tk_route_search.specs.Outcomes.{AreMade}
-use Rattle.tk_route_search.specs.Tasks.{RouteTask, IsRing, copies_in, given_for, task_of}
+use Rattle.tk_route_search.specs.Tasks.{RouteTask, IsRing, copies_in, given_for, runs_of, task_of}
 use Rattle.tk_route_search.specs.Watching.{WereShown, nothing}
 use Rattle.tk_route_search.proofs.RunsSoFar.{kept_none}
 use Rattle.tk_route_search.proofs.routes.run_ring.Goals as goal
@@ -37,7 +38,8 @@ made_none task ring cost Watched watched few stands long (Ok kept) reports same 
       near = near;
       candidates = λ two. absurd (omega (arith, two, few));
       runs = [];
-      count = no_runs (customer_count task.instance) task.runs few;
+      stop = [];
+      ends = ends_whole Asked (runs_of task) 0 (no_runs (customer_count task.instance) task.runs few);
       made = kept_none task (given_for task (copies_in task.instance ring) near) ring kept stands reports same
           (costs.0 ∙ long) (costs.1 ∙ long);
       watched = watched;

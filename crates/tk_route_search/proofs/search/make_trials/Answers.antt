@@ -1,5 +1,5 @@
-use Rattle.std.proofs.Common.{◌≡◌, ◌+◌, [], ◌∷◌, length, refl, FitsSigned, w64, pos, true, sym, ◌∙◌, subst}
-use Rattle.std.proofs.Common.{arith, rules}
+use Rattle.std.proofs.Common.{◌≡◌, ◌+◌, [], ◌∷◌, ◌++◌, length, refl, FitsSigned, w64, pos, true, false, sym, ◌∙◌}
+use Rattle.std.proofs.Common.{subst, arith, rules}
 use Rattle.std.proofs.lemmas.Int.{to_z-of_z}
 use Rattle.rand_core.specs.Steps.{stream_of, steps_u32}
 use Rattle.rand_pcg.specs.Pcg.{pcg32}
@@ -7,12 +7,15 @@ use Rattle.tk_tour.specs.Tour.{tour_length}
 use Rattle.tk_ring_search.specs.SearchOf.{search_of}
 use Rattle.tk_ring_search.specs.Searching.{begin, trial}
 use Rattle.tk_ring_search.specs.Totals.{is_better}
+use Rattle.tk_solve.specs.Endings.{stopped}
 use Rattle.tk_solve.specs.Runs.{words_of}
-use Rattle.tk_route_search.specs.Runs.{Trials, descended, tried}
+use Rattle.tk_solve.proofs.Endings.{ends_whole}
+use Rattle.tk_route_search.specs.Events.{Asked}
+use Rattle.tk_route_search.specs.Runs.{descended, tried}
 use Rattle.tk_route_search.specs.Tasks.{RouteTask, IsRing, task_of}
 use Rattle.tk_route_search.specs.Watching.{nothing, next, trial_event}
 use Rattle.tk_route_search.proofs.RunFacts.{best_stands, has_left, own_size}
-use Rattle.tk_route_search.proofs.Watched.{run_of, shown_trial}
+use Rattle.tk_route_search.proofs.Watched.{run_of, shown_both, shown_trial}
 use Rattle.tk_route_search.proofs.search.make_trials.Goals as goal
 
 pub tell-requires : goal.tell-requires
@@ -62,31 +65,60 @@ loop-trial-preserved g c =
     report.descent.after
     c.in_ok-tell-2.ensures c.is_better-is_new.ensures (to_z-of_z w64 report.descent.after fits)
     (to_z-of_z w64 c.shortest-in-loop-trial.result best_fits ∙ c.shortest-in-loop-trial.ensures)
-    c.best-in-loop-trial.ensures in (
+    c.best-in-loop-trial.ensures in
+    let asked : g.W.RouteWatch.shows c.loop-trial.watch (Asked true) c.goes_on.new.self =
+    subst (λ answer. g.W.RouteWatch.shows c.loop-trial.watch (Asked answer) c.goes_on.new.self) c.if-not-goes_on.false
+    c.goes_on.ensures in (
       _,
       (
         tried reported.0 c.loop-trial.invariant.1.0 c.in-Some.ensures reported.1.0,
-        next c.loop-trial.invariant.1.1 reported.1.1,
+        next (next c.loop-trial.invariant.1.1 asked) reported.1.1,
       ),
     )
 
 pub returns-after-loop-trial : goal.returns-after-loop-trial
 returns-after-loop-trial g c =
     let task : RouteTask = task_of c.args.cvrp.now c.args.options.now in
-    let begun = search_of c.args.search.now in
-    let count : c.loop-trial.trial ≡ task.trials =
+    let all : c.loop-trial.trial + 1 ≡ task.trials + 1 =
     omega (arith, c.loop-trial-test.false, c.loop-trial.auto.trial-end) in
     record {
       trials = (
-        c.loop-trial.invariant.0,
+        c.loop-trial.invariant.0 ++ [],
         (
-          stream_of (steps_u32 pcg32) c.loop-trial.generator,
-          (
-            subst (λ t. Trials task c.args.j begun (words_of (task.seed + c.args.j)) t c.loop-trial.invariant.0
-                (search_of c.loop-trial.search) (stream_of (steps_u32 pcg32) c.loop-trial.generator)) count
-                c.loop-trial.invariant.1.0,
-            c.loop-trial.invariant.1.1,
-          ),
+          record {
+            count = c.loop-trial.trial;
+            tried = c.loop-trial.invariant.0;
+            rest = stream_of (steps_u32 pcg32) c.loop-trial.generator;
+            trials = c.loop-trial.invariant.1.0;
+            stop = [];
+            ends = ends_whole Asked (task.trials + 1) (c.loop-trial.trial + 1) all;
+            shown_is = refl;
+          },
+          shown_both c.loop-trial.invariant.1.1 nothing,
+        ),
+      );
+    }
+
+pub returns-then-not-goes_on : goal.returns-then-not-goes_on
+returns-then-not-goes_on g c =
+    let task : RouteTask = task_of c.args.cvrp.now c.args.options.now in
+    let asked : g.W.RouteWatch.shows c.loop-trial.watch (Asked false) c.goes_on.new.self =
+    subst (λ answer. g.W.RouteWatch.shows c.loop-trial.watch (Asked answer) c.goes_on.new.self) c.if-not-goes_on.true
+    c.goes_on.ensures in
+    record {
+      trials = (
+        c.loop-trial.invariant.0 ++ Asked false ∷ [],
+        (
+          record {
+            count = c.loop-trial.trial;
+            tried = c.loop-trial.invariant.0;
+            rest = stream_of (steps_u32 pcg32) c.loop-trial.generator;
+            trials = c.loop-trial.invariant.1.0;
+            stop = Asked false ∷ [];
+            ends = stopped (omega arith) (omega (arith, c.loop-trial-test.true));
+            shown_is = refl;
+          },
+          next c.loop-trial.invariant.1.1 asked,
         ),
       );
     }

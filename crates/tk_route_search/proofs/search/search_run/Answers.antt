@@ -33,10 +33,9 @@ returns-clause-searched g c =
         record {
           begun = search_of c.in_ok-search.search;
           begins = begins;
-          rest = made.1.0;
-          trials = made.1.1.0;
+          made = made.1.0;
         },
-        made.1.1.1,
+        made.1.1,
       ),
     )
 
@@ -45,4 +44,4 @@ returns-clause-ring g c =
     let task : RouteTask = task_of c.args.cvrp.now c.args.options.now in
     let searched = (returns-clause-searched g c).1.0 in
     best_stands task (given_of g.M.Metric c.args.terms) c.args.ring.now c.requires.input searched.begins
-    (run_of searched.trials)
+    (run_of searched.made.trials)
