@@ -26,7 +26,7 @@ _tourkit_options() {
         matrix) _tourkit_words "--json -h --help" ;;
         near) _tourkit_words "-k --json -h --help" ;;
         plot) _tourkit_words "--html -h --help" ;;
-        solve) _tourkit_words "-o --output --trials --candidates --runs --seed --or-segment --construction
+        solve) _tourkit_words "-o --output --trials --seconds --candidates --runs --seed --or-segment --construction
             --final-sweep --initial-tour --initial-solution --vehicles --within-routes --progress --log --json -h --help" ;;
     esac
 }
@@ -66,7 +66,7 @@ _tourkit() {
     case $COMP_CWORD:$before:$word in
         1:*) _tourkit_words "$commands --completions -h --help -V --version" ;;
         *:--completions:*) _tourkit_words "bash zsh fish" ;;
-        *:-k:* | *:--trials:* | *:--candidates:* | *:--runs:* | *:--seed:* | *:--vehicles:*) ;;
+        *:-k:* | *:--trials:* | *:--seconds:* | *:--candidates:* | *:--runs:* | *:--seed:* | *:--vehicles:*) ;;
         *:--or-segment:*) _tourkit_words "1 2 3" ;;
         *:--construction:*) _tourkit_words "nearest savings" ;;
         *:-o:* | *:--output:* | *:--log:* | *:--initial-tour:* | *:--initial-solution:* | *:*[\<\>]:*) _tourkit_files ;;

@@ -37,6 +37,8 @@ complete -c tourkit -n '__fish_seen_subcommand_from plot' -l html -d 'print an H
 complete -c tourkit -n '__fish_seen_subcommand_from solve' -s o -l output -r -F \
     -d 'write the best tour, or the routes of a CVRP, to FILE'
 complete -c tourkit -n '__fish_seen_subcommand_from solve' -l trials -x -d 'trials per run, 1 to 1,000,000'
+complete -c tourkit -n '__fish_seen_subcommand_from solve' -l seconds -x \
+    -d 'begin no trial after N seconds, 1 to 1,000,000'
 complete -c tourkit -n '__fish_seen_subcommand_from solve' -l candidates -x \
     -d 'length of the near lists, 1 to 100'
 complete -c tourkit -n '__fish_seen_subcommand_from solve' -l runs -x -d 'number of runs, 1 to 10,000'

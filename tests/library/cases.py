@@ -17,7 +17,7 @@ from tourkit._search import search
 from tourkit._text import Text
 
 # What the package does not have.
-OF_THE_COMMAND = {"--help", "--vehicles"}
+OF_THE_COMMAND = {"--help", "--seconds", "--vehicles"}
 
 # Messages about the command line, the files that the program opens and writes, or its two ways to search.
 OF_THE_PROGRAM = re.compile(r"^error: |cannot be opened|is the same file as|is the parameter file|search options need")

@@ -31,6 +31,9 @@ const TWO_STARTS: &str =
 const NO_START: &str =
     "the argument '--initial-solution <SOLUTION>' cannot be used with '--within-routes'";
 
+/// The message about a time limit, if each route is improved by itself.
+const NO_SECONDS: &str = "the argument '--seconds <N>' cannot be used with '--within-routes'";
+
 /// Why there is no request.
 pub enum NoRequest {
     /// Memory ran out.
@@ -114,10 +117,7 @@ fn misfit(request: &Request<'_>) -> Option<&'static str> {
             file,
             options: Some(options),
             ..
-        } => match start_misfit(options) {
-            Some(message) => Some(message),
-            None => file_misfit(*file, options),
-        },
+        } => search_misfit(*file, options),
         _ => None,
     }
 }
@@ -134,6 +134,17 @@ fn twice_standard(problem: &str, others: &[&str]) -> Option<&'static str> {
         }
     }
     None
+}
+
+/// The message about the options of a search that cannot be combined.
+fn search_misfit(file: &str, options: &SearchOptions<'_>) -> Option<&'static str> {
+    if options.within_routes && options.seconds.is_some() {
+        return Some(NO_SECONDS);
+    }
+    match start_misfit(options) {
+        Some(message) => Some(message),
+        None => file_misfit(file, options),
+    }
 }
 
 /// The message about options that cannot be combined with `--initial-solution`.

@@ -13,6 +13,8 @@ pub struct SearchOptions<'a> {
     pub runs: Option<&'a str>,
     /// `--trials`: the number of trials per run.
     pub trials: Option<&'a str>,
+    /// `--seconds`: the time limit.
+    pub seconds: Option<u32>,
     /// `--seed`
     pub seed: Option<&'a str>,
     /// `--candidates`: the length of the near lists.
@@ -46,6 +48,7 @@ impl<'a> SearchOptions<'a> {
         let flags = [
             self.final_sweep,
             self.within_routes,
+            self.seconds.is_some(),
             self.vehicles.is_some(),
         ];
         flags.contains(&true) || values.iter().any(|value| value.is_some())

@@ -26,6 +26,7 @@ mod report;
 mod rows;
 mod search;
 mod shown;
+mod time_limit;
 mod vehicles;
 mod watching;
 mod words;

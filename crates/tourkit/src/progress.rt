@@ -6,13 +6,13 @@ use tk_engines::{Progress, RouteProgress};
 /// Minimum time between two updates of the line, in milliseconds.
 const PAUSE: u64 = 100;
 
-/// What the line shows of a search.
+/// How far a search has come.
 #[derive(Clone, Copy)]
 pub struct Stage {
-    run: u32,
-    runs: u32,
-    trial: u32,
-    trials: u32,
+    pub run: u32,
+    pub runs: u32,
+    pub trial: u32,
+    pub trials: u32,
     /// The name of `length`: that of a tour, or the cost of routes.
     measure: &'static str,
     length: i64,

@@ -1,6 +1,7 @@
 //! Reports refusals and notes on standard error.
 use crate::message::message_of;
 use crate::printed::{Unprinted, print_json};
+use crate::progress::Stage;
 use crate::refusal::{Refusal, USAGE};
 use crate::refusal_object::RefusalObject;
 use crate::search::Search;
@@ -138,6 +139,20 @@ pub fn note(rt: &HostRuntime, key: &str, name: &str, slip: &str) {
 pub fn end_of_log(rt: &HostRuntime, name: &str) {
     let name = shown_name(rt, name);
     let _ = eprintln!(rt; "tourkit: note: {name} cannot be written, so the log ends there");
+}
+
+/// Notes that the time limit has ended a search, and after which trial.
+pub fn end_of_time(rt: &HostRuntime, stage: &Stage) {
+    let Stage {
+        run,
+        runs,
+        trial,
+        trials,
+        ..
+    } = stage;
+    let _ = eprintln!(rt;
+        "tourkit: note: time ended the search after trial {trial} of {trials} in run {run} of {runs}"
+    );
 }
 
 /// Notes that the file for the best tour so far contains a tour from an earlier search.

@@ -93,6 +93,14 @@ impl<'p, 'a> Search<'p, 'a> {
         }
     }
 
+    /// The time limit in seconds, if the options state it.
+    pub fn seconds(&self) -> Option<u32> {
+        match self.requester {
+            Requester::Keys(_) => None,
+            Requester::Options(options, _) => options.seconds,
+        }
+    }
+
     /// Opens the problem and, if there is one, the initial tour or solution. `-` is standard input on the command line,
     /// and the name of a file in a parameter file.
     ///

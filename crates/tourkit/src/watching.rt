@@ -4,6 +4,7 @@ use crate::found::{Found, copied_routes};
 use crate::log::Log;
 use crate::progress::{ProgressLine, Stage};
 use crate::search::Search;
+use crate::time_limit::TimeLimit;
 use crate::written::InputFiles;
 use std::alloc::AllocError;
 use tk_engines::{RouteProgress, RouteRun, RouteWatch, write_route_run_line, write_run_line};
@@ -11,7 +12,7 @@ use tk_solve::{Progress, RunReport, Watch};
 use tk_writers::ToWrite;
 
 /// Shows the status line on a terminal, prints the lines of runs on standard error, keeps the best result in a file,
-/// and writes the log.
+/// writes the log, and ends the search when its time is over.
 #[derive(Drop)]
 pub struct SearchWatch<'a> {
     rt: &'a HostRuntime,
@@ -19,6 +20,7 @@ pub struct SearchWatch<'a> {
     lines: bool,
     best: BestFile<'a>,
     log: Log<'a>,
+    limit: TimeLimit<'a>,
     /// The best routes of the run so far, which the search shows only once. If they are not saved, there are none.
     routes: Vec<Vec<u32>>,
 }
@@ -41,8 +43,17 @@ impl<'a> SearchWatch<'a> {
             lines,
             best: BestFile::new(rt, search, inputs)?,
             log,
+            limit: TimeLimit::new(rt, search.seconds()),
             routes: Vec::new(rt.alloc()),
         })
+    }
+
+    /// Notes that the search was ended when its time was over, if it was.
+    pub fn report_limit(&self) {
+        if self.limit.is_exceeded() {
+            self.line.clear();
+            self.limit.report();
+        }
     }
 
     /// Removes the file with the best result, once the search has written its output file.
@@ -75,7 +86,9 @@ impl Watch for SearchWatch<'_> {
     }
 
     fn trial(&mut self, progress: &Progress, best: &[u32]) {
-        self.line.trial(&Stage::of_tour(progress));
+        let stage = Stage::of_tour(progress);
+        self.limit.trial(&stage);
+        self.line.trial(&stage);
         self.log.note_tour(&self.line, progress);
         self.best.show(
             progress.best,
@@ -90,6 +103,10 @@ impl Watch for SearchWatch<'_> {
             let _ = write_run_line(&mut ToWrite::new(self.rt.stderr()), run as u64, report);
         }
     }
+
+    fn goes_on(&mut self) -> bool {
+        self.limit.goes_on()
+    }
 }
 
 impl RouteWatch for SearchWatch<'_> {
@@ -100,7 +117,9 @@ impl RouteWatch for SearchWatch<'_> {
     }
 
     fn trial(&mut self, progress: &RouteProgress, better: Option<&[Vec<u32>]>) {
-        self.line.trial(&Stage::of_routes(progress));
+        let stage = Stage::of_routes(progress);
+        self.limit.trial(&stage);
+        self.line.trial(&stage);
         if let Some(routes) = better {
             self.log.note_routes(&self.line, progress, routes.len());
             self.copy(routes);
@@ -117,5 +136,9 @@ impl RouteWatch for SearchWatch<'_> {
             self.line.clear();
             let _ = write_route_run_line(&mut ToWrite::new(self.rt.stderr()), run as u64, report);
         }
+    }
+
+    fn goes_on(&mut self) -> bool {
+        self.limit.goes_on()
     }
 }

@@ -32,7 +32,7 @@ Examples:
 const CONSTRUCTIONS: [&str; 2] = ["nearest", "savings"];
 
 /// The arguments of the subcommand.
-static ARGUMENTS: [Argument; 16] = [
+static ARGUMENTS: [Argument; 17] = [
     Argument {
         name: "PROBLEM | PARAMETERS",
         help: "a problem file, or a parameter file like LKH's; - for standard input",
@@ -48,6 +48,12 @@ static ARGUMENTS: [Argument; 16] = [
     Argument {
         name: "trials",
         help: "trials per run, 1 to 1,000,000 [default: the number of cities; CVRP: 10 for each node]",
+        syntax: Syntax::Long("N"),
+        values: ValueParser::Unsigned(1, 1_000_000),
+    },
+    Argument {
+        name: "seconds",
+        help: "begin no trial after N seconds, 1 to 1,000,000",
         syntax: Syntax::Long("N"),
         values: ValueParser::Unsigned(1, 1_000_000),
     },
@@ -145,6 +151,7 @@ pub fn request<'a>(words: &ArgMatches<'a>) -> Option<Request<'a>> {
         initial_tour: words.get_str("initial-tour"),
         runs: words.get_str("runs"),
         trials: words.get_str("trials"),
+        seconds: words.get_one::<u32>("seconds"),
         seed: words.get_str("seed"),
         candidates: words.get_str("candidates"),
         construction: words.get_str("construction"),

@@ -133,7 +133,10 @@ fn begin<'a, P: Source, I: Source>(
     let log = Log::open(rt, search, inputs, shown.log)?;
     let mut watch = SearchWatch::new(rt, search, inputs, shown.progress, log)?;
     match outcome_of(rt.alloc(), search, problem, initial, &mut watch) {
-        Ok(outcome) => finish(rt, search, &outcome, shown.json, &mut watch),
+        Ok(outcome) => {
+            watch.report_limit();
+            finish(rt, search, &outcome, shown.json, &mut watch)
+        }
         Err(Stop::Fault(fault)) => Err(stopped(rt, search, inputs, &fault)),
         Err(Stop::NotForType(option)) => {
             Err(Refusal::UnfitKey(search.problem, option, KeyMisfit::Type))

@@ -30,7 +30,7 @@ _tourkit_options() {
         matrix) _tourkit_words "--json -h --help" ;;
         near) _tourkit_words "-k --json -h --help" ;;
         plot) _tourkit_words "--html -h --help" ;;
-        solve) _tourkit_words "-o --output --trials --candidates --runs --seed --or-segment --construction
+        solve) _tourkit_words "-o --output --trials --seconds --candidates --runs --seed --or-segment --construction
             --final-sweep --initial-tour --initial-solution --vehicles --within-routes --progress --log --json -h --help" ;;
     esac
 }
@@ -70,7 +70,7 @@ _tourkit() {
     case $COMP_CWORD:$before:$word in
         1:*) _tourkit_words "$commands --completions -h --help -V --version" ;;
         *:--completions:*) _tourkit_words "bash zsh fish" ;;
-        *:-k:* | *:--trials:* | *:--candidates:* | *:--runs:* | *:--seed:* | *:--vehicles:*) ;;
+        *:-k:* | *:--trials:* | *:--seconds:* | *:--candidates:* | *:--runs:* | *:--seed:* | *:--vehicles:*) ;;
         *:--or-segment:*) _tourkit_words "1 2 3" ;;
         *:--construction:*) _tourkit_words "nearest savings" ;;
         *:-o:* | *:--output:* | *:--log:* | *:--initial-tour:* | *:--initial-solution:* | *:*[\<\>]:*) _tourkit_files ;;
@@ -158,6 +158,7 @@ _tourkit() {
             _arguments -s $help \
                 '(-o --output)'{-o+,--output=}'[write the best tour, or the routes of a CVRP, to FILE]:file:_files' \
                 '--trials=[trials per run, 1 to 1,000,000]:number: ' \
+                '--seconds=[begin no trial after N seconds, 1 to 1,000,000]:number: ' \
                 '--candidates=[length of the near lists, 1 to 100]:number: ' \
                 '--runs=[number of runs, 1 to 10,000]:number: ' \
                 '--seed=[seed of the random numbers]:number: ' \
@@ -227,6 +228,8 @@ complete -c tourkit -n '__fish_seen_subcommand_from plot' -l html -d 'print an H
 complete -c tourkit -n '__fish_seen_subcommand_from solve' -s o -l output -r -F \
     -d 'write the best tour, or the routes of a CVRP, to FILE'
 complete -c tourkit -n '__fish_seen_subcommand_from solve' -l trials -x -d 'trials per run, 1 to 1,000,000'
+complete -c tourkit -n '__fish_seen_subcommand_from solve' -l seconds -x \
+    -d 'begin no trial after N seconds, 1 to 1,000,000'
 complete -c tourkit -n '__fish_seen_subcommand_from solve' -l candidates -x \
     -d 'length of the near lists, 1 to 100'
 complete -c tourkit -n '__fish_seen_subcommand_from solve' -l runs -x -d 'number of runs, 1 to 10,000'
