@@ -54,7 +54,7 @@ enum {
  * the parameters were rejected. */
 enum {
     TOURKIT_WRONG_TYPE = 16,    /* the problem is not a CVRP */
-    TOURKIT_NOT_FOR_TYPE = 17,  /* the parameters contain a key that does not apply to a problem of this type */
+    TOURKIT_NOT_FOR_TYPE = 17,  /* a key or an initial tour does not apply to a problem of this type */
     TOURKIT_TOO_LARGE = 18,     /* the problem has over 5,000 nodes, too many for a matrix */
     TOURKIT_NO_PLACES = 19,     /* the problem has explicit weights instead of coordinates */
     TOURKIT_WRONG_COUNT = 20,   /* the number of entries in a list of cities is not the number of cities of the problem */
@@ -95,7 +95,7 @@ typedef struct {
     uint32_t place;     /* the place of the fault in a tour, from 1, or the number of the route or customer; 0 for none */
     uint64_t length;    /* the length of a tour, from tourkit_check_cities and the other checks of arrays */
     size_t needed;      /* the number of bytes or numbers to write */
-    size_t needed_file; /* like `needed`, for the second buffer of tourkit_solve, tourkit_solve_routes, tourkit_plot and tourkit_page */
+    size_t needed_file; /* like `needed`, for the second buffer of the searches, tourkit_plot and tourkit_page */
 } tourkit_answer;
 
 /* What is known of a problem, apart from its name. Coordinates are in units of 10^-9. Numbers that do not apply are 0. */
@@ -113,6 +113,20 @@ typedef struct {
     bool is_cvrp;       /* whether the problem is a CVRP; otherwise it is a TSP */
     bool is_whole;      /* whether there are coordinates, and all of them are whole numbers */
 } tourkit_problem_info;
+
+/* The options of a search for a tour, or for routes that are improved each by itself. The program uses 10 runs, as many trials
+ * as there are cities, seed 1, 5 candidates and segments of 3 cities by default. For routes, only `candidates` and
+ * `or_segment` have an effect. */
+typedef struct {
+    uint32_t runs;       /* the number of runs, 1 to 10,000 */
+    uint32_t trials;     /* the number of trials per run, 1 to 1,000,000; 0 for the number of cities */
+    uint32_t seed;       /* the seed of the first run; run j uses seed + j - 1 */
+    uint32_t candidates; /* the maximum length of near lists, 1 to 100 */
+    uint32_t or_segment; /* the maximum number of cities in a segment that is moved, 1 to 3 */
+    bool final_sweep;    /* whether each trial continues until no city has an improving move */
+    bool savings;        /* whether starting tours are constructed by the savings algorithm; otherwise by nearest neighbours */
+    bool from_tour;      /* whether each run starts from an initial tour; otherwise from a constructed tour */
+} tourkit_search_options;
 
 /* The options of a search between routes. The program uses one run, ten trials for each node, seed 1, 12 candidates and
  * segments of 3 customers by default. */
@@ -151,18 +165,25 @@ void tourkit_matrix(const uint8_t *problem, size_t problem_size,
  * solution, and `out` the lines that the program prints. `initial` is read if the parameters contain the key
  * INITIAL_TOUR_FILE; apart from that, file names are ignored. If a text is rejected, `out` gets the message.
  *
- * A call ends when the search does. To be able to stop early, search by short calls, each with one run, few trials, a new
- * seed and the last tour as the initial tour, as in examples/c/pieces.c. A second call with a larger buffer repeats the
- * search. For `file`, 24 bytes for each city and another 2,000 are enough. */
+ * A call ends when the search does. To be able to stop early, search by short calls of tourkit_search, each with one run, few
+ * trials, a new seed and the last tour as the initial tour, as in examples/c/pieces.c. A second call with a larger buffer
+ * repeats the search. For `file`, 24 bytes for each city and another 2,000 are enough. */
 void tourkit_solve(const uint8_t *parameters, size_t parameters_size, const uint8_t *problem, size_t problem_size,
                    const uint8_t *initial, size_t initial_size, uint8_t *out, size_t out_size,
                    uint8_t *file, size_t file_size, tourkit_answer *answer);
+
+/* Searches like tourkit_solve, but with options instead of the text of a parameter file. `initial` is a tour, which is read if
+ * `from_tour` is true. A number of `options` that is out of range is rejected. If a text is rejected, or `initial` is not a tour
+ * of the problem's cities, or `from_tour` is true for a CVRP, `out` gets the message. */
+void tourkit_search(const uint8_t *problem, size_t problem_size, const uint8_t *initial, size_t initial_size,
+                    const tourkit_search_options *options, uint8_t *out, size_t out_size,
+                    uint8_t *file, size_t file_size, tourkit_answer *answer);
 
 /* Searches between the routes of a CVRP. `file` gets the text of the solution, and `out` the lines that the program prints.
  * `initial` is a solution, which is read if `from_solution` is true. A number of `options` that is out of range is rejected.
  * If a text is rejected, or the problem is not a CVRP, or the routes of `initial` are not valid, `out` gets the message.
  *
- * tourkit_solve improves each route of a CVRP by itself, as a parameter file does. This search also moves customers between
+ * tourkit_solve and tourkit_search improve each route of a CVRP by itself. This search also moves customers between
  * routes. It can be split into short calls too: each with one run, few trials, a new seed and the last solution as `initial`.
  * For `file`, 24 bytes for each node and another 100 are enough. */
 void tourkit_solve_routes(const uint8_t *problem, size_t problem_size, const uint8_t *initial, size_t initial_size,

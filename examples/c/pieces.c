@@ -42,17 +42,16 @@ int main(int count, char **words) {
         return 3;
     }
     signal(SIGINT, stop);
-    char problem[ROOM], parameters[256];
+    char problem[ROOM];
     size_t problem_size = write_problem(problem);
     uint8_t lines[1024], found[ROOM], tour[ROOM];
     size_t tour_size = 0;
     for (long piece = 1; piece <= pieces && !stopped; piece++) {
-        const char *initial = piece == 1 ? "" : "INITIAL_TOUR_FILE = the last\n";
-        int parameters_size = snprintf(parameters, sizeof parameters,
-                                       "PROBLEM_FILE = a problem\nRUNS = 1\nMAX_TRIALS = 100\nSEED = %ld\n%s", piece, initial);
+        tourkit_search_options options = {.runs = 1, .trials = 100, .seed = (uint32_t)piece, .candidates = 5, .or_segment = 3};
+        options.from_tour = piece > 1;
         tourkit_answer answer;
-        tourkit_solve((const uint8_t *)parameters, (size_t)parameters_size, (const uint8_t *)problem, problem_size,
-                      tour, tour_size, lines, sizeof lines, found, sizeof found, &answer);
+        tourkit_search((const uint8_t *)problem, problem_size, tour, tour_size, &options, lines, sizeof lines,
+                       found, sizeof found, &answer);
         if (answer.status != TOURKIT_DONE || answer.needed > sizeof lines || answer.needed_file > sizeof found) {
             fprintf(stderr, "status %" PRIu32 ", text %" PRIu32 ", line %" PRIu64 ", fault %" PRIu32 "\n", answer.status,
                     answer.text, answer.line, answer.kind);

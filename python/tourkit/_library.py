@@ -25,6 +25,21 @@ class Answer(ctypes.Structure):
     ]
 
 
+class SearchOptions(ctypes.Structure):
+    """The options of a search for a tour, or for routes that are improved each by itself: `tourkit_search_options` of the header."""
+
+    _fields_ = [
+        ("runs", ctypes.c_uint32),
+        ("trials", ctypes.c_uint32),
+        ("seed", ctypes.c_uint32),
+        ("candidates", ctypes.c_uint32),
+        ("or_segment", ctypes.c_uint32),
+        ("final_sweep", ctypes.c_bool),
+        ("savings", ctypes.c_bool),
+        ("from_tour", ctypes.c_bool),
+    ]
+
+
 class RouteOptions(ctypes.Structure):
     """The options of a search between routes: `tourkit_route_options` of the header."""
 
@@ -71,6 +86,7 @@ CALLS = {
     "tourkit_near": SLICE + NUMBER + SLICE,
     "tourkit_matrix": 2 * SLICE,
     "tourkit_solve": 5 * SLICE,
+    "tourkit_search": 2 * SLICE + STRUCT + 2 * SLICE,
     "tourkit_solve_routes": 2 * SLICE + STRUCT + 2 * SLICE,
     "tourkit_plot": 2 * SLICE + FLAG + 2 * SLICE,
     "tourkit_page": 2 * SLICE + FLAG + 2 * SLICE,

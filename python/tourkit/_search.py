@@ -8,13 +8,14 @@ from functools import partial
 from typing import Any, Dict, Optional, Tuple, Union
 
 from ._claims import tour_text
-from ._library import RouteOptions
+from ._library import RouteOptions, SearchOptions
 from ._problem import Problem
 from ._results import Routes, RouteStart, Tour, result_of
 from ._text import Text
 from ._threads import Pool
 from ._writing import write_texts
 
+Options = Union[SearchOptions, RouteOptions]
 Found = Union[Tour, Routes]
 Result = Tuple[int, Found]
 
@@ -39,41 +40,34 @@ TRIALS_PER_NODE = 10
 AHEAD = 2
 
 
-def search(parameters: Text, problem: Text, start: Text, runs: int) -> Tuple[bytes, bytes]:
-    """Makes the search that the parameters specify. Returns the lines that the program prints, and the text of the tour or the routes."""
-    texts = [parameters, problem, start]
-    words = [word for text in texts for word in text.words]
-    _, (lines, text) = write_texts("tourkit_solve", texts, words, [LINES + LINE * runs, TEXT])
-    return lines, text
-
-
-def search_routes(problem: Text, start: Text, options: RouteOptions) -> Tuple[bytes, bytes]:
-    """Makes the search between routes that the options specify. Returns the lines that the program prints, and the text of the routes."""
+def search(name: str, problem: Text, start: Text, options: Options) -> Tuple[bytes, bytes]:
+    """Makes the search of this function of the library with these options. Returns the lines that the program prints, and the text of the
+    tour or the routes."""
     words = [*problem.words, *start.words, ctypes.byref(options)]
-    _, (lines, text) = write_texts("tourkit_solve_routes", [problem, start], words, [LINES + LINE * options.runs, TEXT])
+    _, (lines, text) = write_texts(name, [problem, start], words, [LINES + LINE * options.runs, TEXT])
     return lines, text
 
 
-class ByParameters:
-    """Searches with the keys of a parameter file apart from RUNS and SEED: for a tour, or for routes that are improved each by itself."""
+class ForTours:
+    """Searches for a tour, or for routes that are improved each by itself, with these options apart from `runs`, `seed` and `from_tour`."""
 
-    def __init__(self, problem: Problem, keys: Dict[str, Any]) -> None:
-        self._problem, self._keys = problem, keys
+    def __init__(self, problem: Problem, options: Dict[str, Any]) -> None:
+        self._problem, self._options = problem, options
 
     def can_split(self, runs: int, jobs: int, start: Optional[Text]) -> bool:
         """Whether each run can be made by itself, and whether this is worthwhile."""
         if self._problem.kind == "cvrp":
             return False
         size = self._problem.size
-        trials: int = self._keys.get("MAX_TRIALS", size)
+        trials: int = self._options["trials"] or size
         if jobs == 1 and trials * runs < LONG:
             return False
         return FEW * trials >= size or (jobs > 1 and not self._needs_tours(start))
 
     def _needs_tours(self, start: Optional[Text]) -> bool:
         """Whether each run starts from a nearest-neighbour tour of its own."""
-        construction: str = self._keys["CONSTRUCTION"]
-        return start is None and construction == "NEAREST"
+        savings: bool = self._options["savings"]
+        return start is None and not savings
 
     def start_of(self, run: int, start: Optional[Text]) -> Optional[Text]:
         """The initial tour of a run; `None` if the library constructs it. Run j starts from the nearest-neighbour tour of city j, and after
@@ -84,11 +78,9 @@ class ByParameters:
         return Text(tour_text(self._problem._nearest_tour(before + 1), "initial_tour"), "tour")
 
     def found(self, runs: int, seed: int, start: Optional[Text]) -> Found:
-        """The result of some runs, by one call of the library. The parameters must contain file names, but the library ignores them."""
-        names = {"PROBLEM_FILE": "-"} if start is None else {"PROBLEM_FILE": "-", "INITIAL_TOUR_FILE": "-"}
-        lines = (f"{key} = {value}\n" for key, value in {**names, **self._keys, "RUNS": runs, "SEED": seed}.items())
-        parameters = Text("".join(lines).encode(), "parameters")
-        told, text = search(parameters, self._problem._source, start or Text(b"", "tour"), runs)
+        """The result of some runs, by one call of the library."""
+        options = SearchOptions(runs=runs, seed=seed, from_tour=start is not None, **self._options)
+        told, text = search("tourkit_search", self._problem._source, start or Text(b"", "tour"), options)
         return result_of(told, text, self._problem)
 
 
@@ -111,14 +103,14 @@ class BetweenRoutes:
     def found(self, runs: int, seed: int, start: Optional[Text]) -> Found:
         """The result of some runs, by one call of the library."""
         options = RouteOptions(runs=runs, seed=seed, from_solution=start is not None, **self._options)
-        told, text = search_routes(self._problem._source, start or Text(b"", "solution"), options)
+        told, text = search("tourkit_solve_routes", self._problem._source, start or Text(b"", "solution"), options)
         return result_of(told, text, self._problem)
 
 
 class Search:
     """The searches of a call of `solve`: one for each piece."""
 
-    def __init__(self, how: Union[ByParameters, BetweenRoutes], runs: int, jobs: int) -> None:
+    def __init__(self, how: Union[ForTours, BetweenRoutes], runs: int, jobs: int) -> None:
         self._how, self._runs, self._jobs = how, runs, jobs
         self._pool = Pool[Result](jobs)
         self._before: Tuple[Any, ...] = ()

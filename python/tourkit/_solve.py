@@ -11,7 +11,7 @@ from ._limits import CANDIDATE_LIMIT
 from ._problem import CVRP, TSP, Problem, problem_of
 from ._refused import Refused
 from ._results import Routes, Tour
-from ._search import SEEDS, BetweenRoutes, ByParameters, Search
+from ._search import SEEDS, BetweenRoutes, ForTours, Search
 from ._text import ACCEPTED, Bytes, File, Text
 
 Start = Union[File, Bytes, Tour, Iterable[int], None]
@@ -153,7 +153,7 @@ def solve(
         "or_segment": within("or_segment", or_segment, 1, 3),
         "final_sweep": bool(final_sweep),
     }
-    how = BetweenRoutes(asked, options) if between else ByParameters(asked, keys_of(options, construction))
+    how = BetweenRoutes(asked, options) if between else ForTours(asked, {**options, "savings": is_savings(construction)})
     number = within("pieces", pieces, 1, SEEDS)
     search = Search(how, count, within("jobs", jobs, 1, RUN_LIMIT))
     try:
@@ -188,17 +188,6 @@ def candidate_count(candidates: Optional[int], between: bool) -> int:
     return default if candidates is None else within("candidates", candidates, 1, CANDIDATE_LIMIT)
 
 
-def keys_of(options: Dict[str, Any], construction: Optional[str]) -> Dict[str, Any]:
-    """The keys of a parameter file for these options, apart from RUNS and SEED."""
-    keys = {
-        "MAX_CANDIDATES": options["candidates"],
-        "CONSTRUCTION": construction_of("NEAREST" if construction is None else construction),
-        "FINAL_SWEEP": "YES" if options["final_sweep"] else "NO",
-        "OR_SEGMENT": options["or_segment"],
-    }
-    return {**keys, "MAX_TRIALS": options["trials"]} if options["trials"] else keys
-
-
 def tour_to_start(problem: Problem, initial_tour: Any) -> Optional[Text]:
     """The text of the initial tour, if there is one. A list must be a tour of the problem."""
     if initial_tour is None:
@@ -228,8 +217,9 @@ def solution_to_start(problem: Problem, initial_solution: Any) -> Optional[Text]
     return Text(solution_text(listed, "initial_solution", verdict.cost or 0), "solution")
 
 
-def construction_of(name: str) -> str:
-    """The name of a construction, in capital letters."""
-    if text_argument("construction", name).upper() not in CONSTRUCTIONS:
-        raise ValueError(f"construction must be one of {' and '.join(CONSTRUCTIONS)}, not {name!r}")
-    return name.upper()
+def is_savings(construction: Optional[str]) -> bool:
+    """Whether starting tours are constructed by the savings algorithm; otherwise by nearest neighbours."""
+    name = "NEAREST" if construction is None else text_argument("construction", construction).upper()
+    if name not in CONSTRUCTIONS:
+        raise ValueError(f"construction must be one of {' and '.join(CONSTRUCTIONS)}, not {construction!r}")
+    return name == "SAVINGS"

@@ -66,11 +66,12 @@ static text read_text(const char *folder, const char *name) {
 /* An answer has no padding, so its bytes can be compared. */
 _Static_assert(sizeof(tourkit_answer) == 4 * sizeof(uint32_t) + 2 * sizeof(uint64_t) + 2 * sizeof(size_t), "padding");
 
-enum { CALLS = 32, COORDINATES = 20, EXPLAINED = 30, THREADS = 8, ROOM = 1 << 18, UNTOUCHED = 0x77 };
+enum { CALLS = 34, COORDINATES = 20, EXPLAINED = 30, THREADS = 8, ROOM = 1 << 18, UNTOUCHED = 0x77 };
 
 static text tsp, tour, vrp, sol, par, listed, par_vrp, five;
 static const int64_t xs[4] = {0, 3000000000, 3000000000, 500000000}, ys[4] = {0, 0, 4000000000, 4000000000};
 static const uint32_t cities[4] = {1, 2, 3, 4}, weights[6] = {3, 5, 4, 6, 7, 2};
+static const tourkit_search_options from_listed = {2, 0, 1, 5, 3, false, false, true}, by_savings = {1, 9, 7, 8, 2, true, true, false};
 static const tourkit_route_options from_savings = {2, 20, 1, 12, 3, true, false}, from_plan = {1, 20, 1, 5, 2, false, true};
 
 /* The two buffers of a call, their sizes in bytes, its answer, and what it finds out about a problem. */
@@ -137,6 +138,8 @@ static void call(int which, result *r) {
     case 28: tourkit_info(tour.bytes, tour.size, &r->info, o, room, a); break;
     case 29: tourkit_nearest_tour(tsp.bytes, tsp.size, 455, numbers, room / 4, a); break;
     case 31: tourkit_page(vrp.bytes, vrp.size, sol.bytes, sol.size, true, o, room, f, file_room, a); break;
+    case 32: tourkit_search(tsp.bytes, tsp.size, listed.bytes, listed.size, &from_listed, o, room, f, file_room, a); break;
+    case 33: tourkit_search(vrp.bytes, vrp.size, vrp.bytes, 0, &by_savings, o, room, f, file_room, a); break;
     case EXPLAINED: tourkit_explain(vrp.bytes, vrp.size, (const uint8_t *)"bakery", 6, 0, o, room, a); break;
     }
 }

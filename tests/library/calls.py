@@ -14,7 +14,7 @@ import threading
 
 import tourkit
 from tourkit import _limits
-from tourkit._library import CALLS, Answer, ProblemInfo, RouteOptions, output_slice
+from tourkit._library import CALLS, Answer, ProblemInfo, RouteOptions, SearchOptions, output_slice
 from tourkit._text import text_of
 from tourkit._writing import write_texts
 
@@ -53,8 +53,8 @@ def try_header():
         declared[name] = tuple(ctypes.c_void_p if "*" in word else known[word.split()[0]] for word in given)
     assert declared == CALLS, "other calls"
     structs = {name: body for body, name in re.findall(r"typedef struct \{(.*?)\} (\w+);", header, re.DOTALL)}
-    ours_by_name = {"tourkit_answer": Answer, "tourkit_problem_info": ProblemInfo, "tourkit_route_options": RouteOptions}
-    for name, ours in ours_by_name.items():
+    ours_by_name = {"tourkit_answer": Answer, "tourkit_problem_info": ProblemInfo}
+    for name, ours in {**ours_by_name, "tourkit_search_options": SearchOptions, "tourkit_route_options": RouteOptions}.items():
         fields = re.findall(r"(?m)^ +(\w+) (\w+);", structs.pop(name))
         assert [(field, known[kind]) for kind, field in fields] == ours._fields_, fields
     assert not structs, structs

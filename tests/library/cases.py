@@ -13,8 +13,9 @@ sys.path.append(str(TESTS / "readers"))
 import refusal
 import texts
 import tourkit
-from tourkit._search import search
+from tourkit._search import LINE, LINES, TEXT
 from tourkit._text import Text
+from tourkit._writing import write_texts
 
 # What the package does not have.
 OF_THE_COMMAND = {"--help", "--seconds", "--vehicles"}
@@ -228,13 +229,13 @@ def solve_parameters(case):
     try:
         values, ignored = texts.read_params(parameters.data)
     except texts.ParamFault:
-        search(parameters, Text(b"", "problem"), Text(b"", "tour"), 1)
+        search(parameters, Text(b"", "problem"), Text(b"", "tour"), {})
         raise AssertionError("parameters that a second reader refuses") from None
     names = {key: values.get(key) for key in (b"PROBLEM_FILE", b"INITIAL_TOUR_FILE", b"TOUR_FILE", b"SOLUTION_FILE")}
     problem = Text(bytes_of(names[b"PROBLEM_FILE"]), "problem", names[b"PROBLEM_FILE"])
     initial = names[b"INITIAL_TOUR_FILE"]
     start = Text(bytes_of(initial), "tour", initial) if initial else Text(b"", "tour")
-    lines, text = search_named(parameters, problem, start, values)
+    lines, text = search(parameters, problem, start, values)
     output = names[b"TOUR_FILE"] or names[b"SOLUTION_FILE"]
     assert output is None or text == case.written(output), text
     arguments = {name: plain(values[key]) for name, key in KEYS.items() if key in values}
@@ -248,10 +249,13 @@ def solve_parameters(case):
     return told_of(case, found, ignored)
 
 
-def search_named(parameters, problem, start, values):
-    """Searches by a parameter file. If a key is rejected, the error contains the name of the key in the file."""
+def search(parameters, problem, start, values):
+    """Searches by a parameter file, as a C program does, and returns the lines and the text. If a key is rejected, the error contains the
+    name of the key in the file."""
+    texts = [parameters, problem, start]
+    words = [word for text in texts for word in text.words]
     try:
-        return search(parameters, problem, start, values.get(b"RUNS", 10))
+        return write_texts("tourkit_solve", texts, words, [LINES + LINE * values.get(b"RUNS", 10), TEXT])[1]
     except tourkit.Refused as fault:
         raise tourkit.Refused(str(fault).replace("initial_tour does", "INITIAL_TOUR_FILE does"), fault.number, fault.name) from None
 

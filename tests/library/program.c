@@ -222,36 +222,55 @@ static int solve(const char *parameter_file) {
 }
 
 /* The number that an option sets. */
-static uint32_t *number_of(tourkit_route_options *options, const char *word) {
+static uint32_t *number_of(tourkit_search_options *options, const char *word) {
     if (!strcmp(word, "--runs")) return &options->runs;
     if (!strcmp(word, "--trials")) return &options->trials;
     if (!strcmp(word, "--seed")) return &options->seed;
     if (!strcmp(word, "--candidates")) return &options->candidates;
-    expect(!strcmp(word, "--or-segment"), "the options are those of a search between routes");
+    expect(!strcmp(word, "--or-segment"), "the options are those of a search");
     return &options->or_segment;
 }
 
-/* Runs `solve` with options: a search between routes. */
-static int solve_routes(int count, char **words) {
-    tourkit_route_options options = {.runs = 1, .seed = 1, .candidates = 12, .or_segment = 3};
+/* Whether a text is that of a CVRP. */
+static bool is_cvrp(text problem) {
+    tourkit_problem_info info = {.is_cvrp = false};
+    tourkit_answer answer;
+    tourkit_info(problem.bytes, problem.size, &info, room_for(0).bytes, 0, &answer);
+    return info.is_cvrp;
+}
+
+/* Runs `solve` with options: a search for a tour or between routes. */
+static int solve_by_options(int count, char **words) {
     const char *files[] = {words[2], NULL}, *output = NULL;
+    text problem = read_word(files[0]);
+    bool between = is_cvrp(problem);
+    for (int i = 3; i < count; i++) between = between && strcmp(words[i], "--within-routes");
+    tourkit_search_options options = {.runs = between ? 1 : 10, .seed = 1, .candidates = between ? 12 : 5, .or_segment = 3};
     for (int i = 3; i < count; i++) {
         const char *word = words[i];
         if (!strcmp(word, "--final-sweep")) {
             options.final_sweep = true;
             continue;
         }
+        if (!strcmp(word, "--within-routes")) continue;
         expect(++i < count, "the option has a value");
         if (!strcmp(word, "-o") || !strcmp(word, "--output")) output = words[i];
-        else if (!strcmp(word, "--initial-solution")) files[1] = words[i];
+        else if (!strcmp(word, "--initial-solution") || !strcmp(word, "--initial-tour")) files[1] = words[i];
+        else if (!strcmp(word, "--construction")) options.savings = !strcasecmp(words[i], "SAVINGS");
         else *number_of(&options, word) = (uint32_t)strtoul(words[i], NULL, 10);
     }
-    options.from_solution = files[1] != NULL;
-    text problem = read_word(files[0]), initial = files[1] ? read_word(files[1]) : room_for(0);
-    text lines = room_for(1 << 16), file = room_for(1 << 18);
+    options.from_tour = files[1] != NULL;
+    text initial = files[1] ? read_word(files[1]) : room_for(0), lines = room_for(1 << 16), file = room_for(1 << 18);
     tourkit_answer answer;
-    tourkit_solve_routes(problem.bytes, problem.size, initial.bytes, initial.size, &options, lines.bytes, lines.size, file.bytes, file.size,
-                         &answer);
+    if (between) {
+        tourkit_route_options routes = {options.runs, options.trials, options.seed, options.candidates, options.or_segment,
+                                        options.final_sweep, options.from_tour};
+        tourkit_solve_routes(problem.bytes, problem.size, initial.bytes, initial.size, &routes, lines.bytes, lines.size, file.bytes,
+                             file.size, &answer);
+    } else {
+        tourkit_search(problem.bytes, problem.size, initial.bytes, initial.size, &options, lines.bytes, lines.size, file.bytes, file.size,
+                       &answer);
+    }
     expect(answer.needed <= lines.size && answer.needed_file <= file.size, "the texts have room");
     lines.size = answer.needed;
     file.size = answer.needed_file;
@@ -278,7 +297,7 @@ static int explain(const char *name, uint64_t line) {
 int main(int count, char **words) {
     expect(count >= 3, "there are words");
     if (!strcmp(words[1], "explain")) return explain(words[2], count == 4 ? strtoull(words[3], NULL, 10) : 0);
-    if (!strcmp(words[1], "solve")) return count == 3 ? solve(words[2]) : solve_routes(count, words);
+    if (!strcmp(words[1], "solve")) return count == 3 ? solve(words[2]) : solve_by_options(count, words);
     bool as_page = false;
     if (!strcmp(words[1], "plot")) {
         int kept = 2;

@@ -56,8 +56,8 @@ class Recorder:
 
 LIBRARY = _library.LIBRARY
 
-# The functions that the package does not call. It takes explicit weights as all distances.
-UNUSED = {"tourkit_weights"}
+# The functions that the package does not call. It takes explicit weights as all distances, and passes options instead of parameters.
+UNUSED = {"tourkit_weights", "tourkit_solve"}
 
 
 def make_each_call():

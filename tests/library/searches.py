@@ -102,30 +102,24 @@ def try_jobs_of_routes(program, folder):
         }.items():
             wanted = search_by_program(program, file, folder, *words)
             for jobs, _search.LONG in ((1, LONG), (1, 1), (4, LONG)):
-                before = len(ROUTE_CALLS)
+                before = len(CALLS)
                 routes = tourkit.solve(file, runs=int(words[1]), jobs=jobs, **options)
                 assert (cases.lines_of_search(routes).decode(), routes.text) == wanted, (file, words, jobs)
                 calls = 1 if options.get("seed") == 2**32 - 2 or (jobs, _search.LONG) == (1, LONG) else int(words[1])
-                assert len(ROUTE_CALLS) - before == calls, (file, words, jobs, len(ROUTE_CALLS) - before)
+                assert len(CALLS) - before == calls, (file, words, jobs, len(CALLS) - before)
 
 
-# The numbers of runs of the calls of the library.
-CALLS, ROUTE_CALLS = [], []
+# The functions of the library that have searched, with the number of runs of each call.
+CALLS = []
 
 
-def count_calls(*arguments):
-    """Makes a search by the library, and records its number of runs."""
-    CALLS.append(arguments[-1])
-    return search(*arguments)
+def count_calls(name, *arguments):
+    """Makes a search by the library, and records its function and its number of runs."""
+    CALLS.append((name, arguments[-1].runs))
+    return search(name, *arguments)
 
 
-def count_route_calls(*arguments):
-    """Makes a search between routes by the library, and records its number of runs."""
-    ROUTE_CALLS.append(arguments[-1].runs)
-    return search_routes(*arguments)
-
-
-search, search_routes, LONG = _search.search, _search.search_routes, _search.LONG
+search, LONG = _search.search, _search.LONG
 
 
 def try_starts():
@@ -309,11 +303,11 @@ def tests(program, folder):
     """Returns the checks of this file, each with its description."""
 
     def jobs(check):
-        _search.search, _search.search_routes = count_calls, count_route_calls
+        _search.search = count_calls
         try:
             check(program, folder)
         finally:
-            _search.search, _search.search_routes, _search.LONG = search, search_routes, LONG
+            _search.search, _search.LONG = search, LONG
 
     return [
         *((check.__doc__, functools.partial(jobs, check)) for check in (try_jobs, try_jobs_of_routes)),

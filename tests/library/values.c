@@ -165,6 +165,43 @@ static void explanations(void) {
     expect(is_fault(0, 0, 0) && answer.needed == 0 && file[0] == 7, "a name that is not UTF-8");
 }
 
+#define ROUTES "TYPE: CVRP\nDIMENSION: 4\nCAPACITY: 2\nEDGE_WEIGHT_TYPE: EUC_2D\nNODE_COORD_SECTION\n1 0 0\n2 3 0\n3 3 4\n4 0 4\n" \
+    "DEMAND_SECTION\n1 0\n2 1\n3 1\n4 1\nDEPOT_SECTION\n1\n-1\nEOF\n"
+
+/* Searches for a tour of a problem with these options, from a text. */
+static void search(const char *problem, const char *tour, tourkit_search_options options) {
+    tourkit_search((const uint8_t *)problem, strlen(problem), (const uint8_t *)tour, strlen(tour), &options, ARRAY(out), ARRAY(file), &answer);
+}
+
+/* Searches with options, each of which has limits. */
+static void settings(void) {
+    tourkit_search_options once = {.runs = 1, .trials = 1, .candidates = 5, .or_segment = 3}, from_tour = once;
+    from_tour.from_tour = true;
+    search(PROBLEM, "", once);
+    expect(answer.status == TOURKIT_DONE && begins(out, "run 1: start 12, best 12, trials 1,"), "a search with options");
+    expect(answer.needed_file == 97 && begins(file, "NAME : Unnamed.12.tour\nCOMMENT : Length = 12\n"), "the tour of a search with options");
+    search(PROBLEM, TOUR, from_tour);
+    expect(answer.status == TOURKIT_DONE && begins(out, "run 1: start 12, best 12, trials 1,"), "a search from a tour");
+    search(PROBLEM, "TYPE: TOUR\nTOUR_SECTION\n1 2\n", from_tour);
+    expect(is_fault(2, 0, TOURKIT_WRONG_COUNT) && begins(out, "initial tour: wrong count"), "a search from too few cities");
+    search(PROBLEM, "TYPE: TSP\n", from_tour);
+    expect(is_fault(2, 1, 4), "a search from a text that is not a tour");
+    search(ROUTES, "", once);
+    expect(answer.status == TOURKIT_DONE && begins(out, "savings 18, routes 2\nimproved 18,"), "routes that are improved each by itself");
+    search(ROUTES, TOUR, from_tour);
+    expect(is_fault(0, 0, TOURKIT_NOT_FOR_TYPE) && answer.needed > 0, "a search for routes from a tour");
+    static const tourkit_search_options outside[] = {
+        {.runs = 0, .candidates = 5, .or_segment = 3},   {.runs = 10001, .candidates = 5, .or_segment = 3},
+        {.runs = 1, .candidates = 0, .or_segment = 3},   {.runs = 1, .candidates = 101, .or_segment = 3},
+        {.runs = 1, .candidates = 5, .or_segment = 0},   {.runs = 1, .candidates = 5, .or_segment = 4},
+        {.runs = 1, .trials = 1000001, .candidates = 5, .or_segment = 3},
+    };
+    for (size_t i = 0; i < sizeof outside / sizeof *outside; i++) {
+        search(PROBLEM, "", outside[i]);
+        expect(is_fault(0, 0, 0) && answer.needed == 0 && answer.needed_file == 0, "an option of a search that is out of range");
+    }
+}
+
 static void searches(void) {
     tourkit_solve(TEXT("PROBLEM_FILE = -\nRUNS = 1\nOPTIMUM = 3\n"), TEXT(PROBLEM), TEXT(""), ARRAY(out), ARRAY(file), &answer);
     expect(answer.status == TOURKIT_DONE && begins(out, "ignored OPTIMUM\nrun 1: start 12, best 12, trials 1"), "a search");
@@ -178,9 +215,6 @@ static void searches(void) {
     tourkit_page(TEXT(PROBLEM), TEXT("TYPE: TOUR\nTOUR_SECTION\n1 2\n"), true, ARRAY(file), ARRAY(out), &answer);
     expect(answer.status == TOURKIT_FOUND && begins(out, "wrong count: 3 wanted, 2 read\n"), "a page of too few cities");
 }
-
-#define ROUTES "TYPE: CVRP\nDIMENSION: 4\nCAPACITY: 2\nEDGE_WEIGHT_TYPE: EUC_2D\nNODE_COORD_SECTION\n1 0 0\n2 3 0\n3 3 4\n4 0 4\n" \
-    "DEMAND_SECTION\n1 0\n2 1\n3 1\n4 1\nDEPOT_SECTION\n1\n-1\nEOF\n"
 
 #define FOUND "Route #1: 1\nRoute #2: 2 3\nCost 18\n"
 
@@ -280,6 +314,7 @@ int main(void) {
     tours();
     explanations();
     searches();
+    settings();
     routes();
     limits();
     points();

@@ -59,13 +59,13 @@ pub mod routes {
 /// The program as a library.
 pub mod engines {
     pub use tk_engines::{
-        BetweenOptions, Construction, Fault, FoundBetween, FoundRoutes, FoundTour, Key, NoObserver,
-        ParamFault, ParamKind, Params, Plotted, Progress, RouteFault, RouteProgress, RouteRun,
-        RouteVerdict, RouteWatch, SearchBuilder, SearchOutcome, SearchSettings, TourFault,
-        TourOutcome, Verdict, Watch, between_engine, between_outcome, check_engine, key_of,
-        matrix_engine, near_engine, plot_engine, read_params, route_check_engine, route_outcome,
-        route_outcome_of, search_between, search_outcome, search_problem, solve_engine,
-        tour_outcome, tour_outcome_of, write_found, write_route_run_line, write_route_verdict,
+        Construction, Fault, FoundBetween, FoundRoutes, FoundTour, Key, NoObserver, ParamFault,
+        ParamKind, Params, Plotted, Progress, RouteFault, RouteProgress, RouteRun, RouteVerdict,
+        RouteWatch, SearchBuilder, SearchOutcome, SearchSettings, TourFault, TourOutcome, Verdict,
+        Watch, between_engine, between_outcome, check_engine, key_of, matrix_engine, near_engine,
+        plot_engine, read_params, route_check_engine, route_outcome, route_outcome_of,
+        search_between, search_engine, search_outcome, search_problem, solve_engine, tour_outcome,
+        tour_outcome_of, unfit_key, write_found, write_route_run_line, write_route_verdict,
         write_run_line, write_search_lines, write_tour_outcome,
     };
 }

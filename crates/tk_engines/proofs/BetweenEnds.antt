@@ -6,6 +6,7 @@ use Rattle.std.specs.Result.{IsErrAnd}
 use Rattle.std.proofs.lemmas.List.{length-map}
 use Rattle.tk_problem.specs.declared.problem.Problem.{Problem}
 use Rattle.tk_problem_text.specs.ProblemOf.{problem_is}
+use Rattle.tk_params.specs.Requested.{SearchIs}
 use Rattle.tk_lists.specs.Solution.{Solution}
 use Rattle.tk_routes.specs.Instance.{Instance, IsInstanceOf, customer_count}
 use Rattle.tk_routes.specs.RouteVerdicts.{filled_of}
@@ -21,7 +22,6 @@ use Rattle.tk_route_search.specs.declared.routes.SolvedRoutes.{SolvedRoutes}
 use Rattle.tk_engines.specs.Between.{AreFound, AreGivenRoutes, IsStartFault, IsStartRefused, between_task, route_task}
 use Rattle.tk_engines.specs.Between.{start_of}
 use Rattle.tk_engines.specs.Engine.{AreRead, Ends, HasRead, WritesNothing}
-use Rattle.tk_engines.specs.declared.between_options.BetweenOptions.{BetweenOptions}
 use Rattle.tk_engines.specs.declared.outcomes.search.FoundBetween.{FoundBetween}
 use Rattle.tk_engines.specs.declared.outcomes.search.SearchOutcome.{SearchOutcome}
 use Rattle.tk_engines.specs.declared.outcomes.search.SearchOutcome.TheVariants.{Between}
@@ -31,14 +31,14 @@ use Rattle.tk_engines.proofs.ReadTables.{some_instance_read}
 use Rattle.tk_engines.proofs.RouteChecks.{routing_fits}
 
 -- how a search ends once its texts are read
-module _ (o : BetweenOptions) (Watched : List Event → Type 0) (p : Problem) (i : Instance) (is : IsInstanceOf p i)
+module _ (s : SearchIs) (Watched : List Event → Type 0) (p : Problem) (i : Instance) (is : IsInstanceOf p i)
     (start : Option Solution) where
-  read : AreRead (between_task o Watched) (HasRead (problem_is p)) (HasRead start) (problem_is p) start
+  read : AreRead (between_task s Watched) (HasRead (problem_is p)) (HasRead start) (problem_is p) start
   read = record { is_problem = refl; fits = routing_fits p i is; is_second = refl }
 
   -- the initial solution was refused
   start_stopped : (f : Fault) → IsStartRefused i start f →
-      Ends (between_task o Watched) (HasRead (problem_is p)) (HasRead start) WritesNothing (Err f)
+      Ends (between_task s Watched) (HasRead (problem_is p)) (HasRead start) WritesNothing (Err f)
   start_stopped (faults.InitialRoutes f) h =
       let Clashes : Instance → Type 0 = λ j. IsStartFault j start (Some (faults.InitialRoutes f)) in
       (problem_is p, start, read, some_instance_read p i Clashes is h)
@@ -48,22 +48,22 @@ module _ (o : BetweenOptions) (Watched : List Event → Type 0) (p : Problem) (i
   -- and the fault was passed on
   pub start_failed : (f : Fault) (r : Result SearchOutcome Fault) → IsErrAnd r (λ e. e ≡ f) →
       IsStartRefused i start f →
-      Ends (between_task o Watched) (HasRead (problem_is p)) (HasRead start) WritesNothing r
+      Ends (between_task s Watched) (HasRead (problem_is p)) (HasRead start) WritesNothing r
   start_failed f (Err e) passed h =
       subst
-      (λ v. Ends (between_task o Watched) (HasRead (problem_is p)) (HasRead start) WritesNothing (Err v)) (sym passed)
+      (λ v. Ends (between_task s Watched) (HasRead (problem_is p)) (HasRead start) WritesNothing (Err v)) (sym passed)
       (start_stopped f h)
   start_failed f (Ok v) passed h = elim passed [ ]
 
   -- memory ran out
   pub memory_ended :
-      Ends (between_task o Watched) (HasRead (problem_is p)) (HasRead start) WritesNothing (Err faults.NoMemory)
+      Ends (between_task s Watched) (HasRead (problem_is p)) (HasRead start) WritesNothing (Err faults.NoMemory)
   memory_ended = (problem_is p, start, read, refl)
 
   -- the search was made
   pub found_ends : (found : FoundBetween) → IsStartFault i start None →
-      AreFound o Watched (problem_is p).name i start found.solved →
-      Ends (between_task o Watched) (HasRead (problem_is p)) (HasRead start) WritesNothing (Ok (Between found))
+      AreFound s Watched (problem_is p).name i start found.solved →
+      Ends (between_task s Watched) (HasRead (problem_is p)) (HasRead start) WritesNothing (Ok (Between found))
   found_ends found together is_found =
       record {
         problem = problem_is p;
@@ -71,7 +71,7 @@ module _ (o : BetweenOptions) (Watched : List Event → Type 0) (p : Problem) (i
         text = tt;
         read = read;
         together = some_instance_read p i (λ j. IsStartFault j start None) is together;
-        gives = some_instance_read p i (λ j. AreFound o Watched (problem_is p).name j start found.solved) is is_found;
+        gives = some_instance_read p i (λ j. AreFound s Watched (problem_is p).name j start found.solved) is is_found;
         written = tt;
       }
 
@@ -89,7 +89,7 @@ start_given i (Routes given) (Some solution) is valid =
     subst (λ routes. AreRoutes i (filled_of routes)) (sym (ap routes_at is)) valid
 
 -- what was found and watched of a search, as a part of what was watched
-pub IfOk-found : {E : Type 0} (r : Result SolvedRoutes E) (o : BetweenOptions) (name : List ℕ) (i : Instance)
+pub IfOk-found : {E : Type 0} (r : Result SolvedRoutes E) (o : SearchIs) (name : List ℕ) (i : Instance)
     (start : Option Solution) (task : RouteTask) (Watched All : List Event → Type 0) → task ≡ route_task o i start →
     ((shown : List Event) → Watched shown → All (Begun name ∷ shown)) →
     IfOk r (AreSolved task Watched) → IfOk r (AreSound task) → IfOk r (AreFound o All name i start)
@@ -125,12 +125,12 @@ at_most true n = omega arith
 at_most false n = omega arith
 
 -- no more reports than runs
-pub few_reports : (o : BetweenOptions) (Watched : List Event → Type 0) (name : List ℕ) (i : Instance)
-    (start : Option Solution) (solved : SolvedRoutes) → AreFound o Watched name i start solved →
+pub few_reports : (o : SearchIs) (Watched : List Event → Type 0) (name : List ℕ) (i : Instance)
+    (start : Option Solution) (solved : SolvedRoutes) → o.runs ≤ 10000 → AreFound o Watched name i start solved →
     length solved.runs.items ≤ 10000
-few_reports o Watched name i start solved found =
+few_reports o Watched name i start solved few found =
     let are = found.are in
     let count = ap length are.reports
     ∙ length-map are.runs (λ (run : Run). report_of (customer_count i) run.ended) in
     let within = ends_within Asked are.ends in
-    omega (arith, count, within, at_most (nat_lt (customer_count i) 2) o.runs, o.some_runs.1)
+    omega (arith, count, within, at_most (nat_lt (customer_count i) 2) o.runs, few)

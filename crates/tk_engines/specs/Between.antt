@@ -1,14 +1,14 @@
 -- The input, the search and the output of a search between the routes of a CVRP.
---     between_task o Watched      the task of a search with these options, whose events satisfy Watched
---     between_files_task o Watched      like between_task, with the output
+--     between_task s Watched      the task of a search with these settings, whose events satisfy Watched
+--     between_files_task s Watched      like between_task, with the output
 --     ReadsStart given      the initial solution is read if the runs begin with one
-use Rattle.std.specs.Prelude.{◌≡◌, ℕ, ◌*◌, Bool, true, false, List, [], ◌∷◌, Option, Some, None, IsSomeAnd}
-use Rattle.std.specs.Prelude.{Result, Ok, Err, option_map, unwrap_or}
+use Rattle.std.specs.Prelude.{◌≡◌, ℕ, ◌*◌, Bool, true, List, [], ◌∷◌, Option, Some, None, IsSomeAnd}
+use Rattle.std.specs.Prelude.{option_map, unwrap_or}
 use Rattle.tk_problem_text.specs.Problem.{ProblemIs}
-use Rattle.tk_lists.specs.Solution.{Solution, as_solution}
+use Rattle.tk_params.specs.Requested.{SearchIs}
+use Rattle.tk_lists.specs.Solution.{Solution, as_solution, solution_texts}
 use Rattle.tk_lists.specs.declared.texts.SolText.{SolText}
 use Rattle.tk_words.specs.declared.sources.source.Source as sources
-use Rattle.tk_writers.specs.declared.output.sink.Sink as sinks
 use Rattle.tk_routes.specs.Instance.{Instance}
 use Rattle.tk_routes.specs.RouteVerdicts.{IsRouteVerdict, filled_of}
 use Rattle.tk_routes.specs.Routes.{AreRoutes}
@@ -18,19 +18,17 @@ use Rattle.tk_routes.specs.declared.checking.verdict.RouteVerdict.TheVariants.{O
 use Rattle.tk_route_search.specs.Events.{Event, Begun}
 use Rattle.tk_route_search.specs.SolvedRoutes.{AreSolved, AreSound}
 use Rattle.tk_route_search.specs.Tasks.{Begins, AtLadder, At, RouteTask}
-use Rattle.tk_route_search.specs.Watching.{WereShown}
 use Rattle.tk_route_search.specs.declared.routes.SolvedRoutes.{SolvedRoutes}
-use Rattle.tk_route_search.specs.declared.watch.RouteWatch as watchers
-use Rattle.tk_engines.specs.Engine.{Ends, IsUnread, Reading, ReadsProblem, ReadsSolution, Task, WritesNothing}
+use Rattle.tk_engines.specs.Engine.{Reading, ReadsGiven, Task}
 use Rattle.tk_engines.specs.Engine.{written_as}
 use Rattle.tk_engines.specs.ReadProblems.{instance_in}
 use Rattle.tk_engines.specs.RouteCheck.{without_routing}
-use Rattle.tk_engines.specs.Solve.{Files, WritesFiles, files_with}
-use Rattle.tk_engines.specs.declared.between_options.BetweenOptions.{BetweenOptions}
+use Rattle.tk_engines.specs.Solve.{Files, files_with}
 use Rattle.tk_engines.specs.declared.outcomes.search.SearchOutcome.{SearchOutcome}
 use Rattle.tk_engines.specs.declared.outcomes.search.SearchOutcome.TheVariants.{Between}
 use Rattle.tk_engines.specs.declared.fault.Fault.{Fault}
 use Rattle.tk_engines.specs.declared.fault.Fault.TheVariants.{InitialRoutes, NoMemory}
+use Rattle.tk_engines.specs.declared.fault.Fault.TheVariants.{Solution as InSolution}
 use Rattle.tk_engines.specs.declared.route_fault.RouteFault.{RouteFault}
 use Rattle.tk_engines.specs.declared.route_fault.RouteFault.TheVariants as faults
 
@@ -42,9 +40,7 @@ solution_in start = option_map as_solution start
 
 -- the initial solution is read if the runs begin with one; otherwise its source is not read
 abbrev pub ReadsStart : {S : Type 0} → Bool → sources.Ghosts S → S → S → Reading (Option Solution)
-ReadsStart given source old new (Ok None) = (given ≡ false) × IsUnread source old new
-ReadsStart given source old new (Ok (Some solution)) = (given ≡ true) × ReadsSolution source old new (Ok solution)
-ReadsStart given source old new (Err f) = (given ≡ true) × ReadsSolution source old new (Err f)
+ReadsStart = ReadsGiven solution_texts InSolution
 
 -- the fault of routes with this verdict; None if they are valid
 abbrev pub route_fault : RouteVerdict → Option RouteFault
@@ -78,60 +74,44 @@ abbrev pub start_of : Option Solution → Begins
 start_of None = AtLadder
 start_of (Some solution) = At solution.0
 
--- the search for routes of an instance; ten trials for each node, unless the options state their number
-abbrev pub route_task : BetweenOptions → Instance → Option Solution → RouteTask
-route_task o i start =
+-- the search for routes of an instance; ten trials for each node, unless the settings state their number. The
+-- construction has no effect
+abbrev pub route_task : SearchIs → Instance → Option Solution → RouteTask
+route_task s i start =
     record {
       instance = i;
       start = start_of start;
-      runs = o.runs;
-      trials = unwrap_or o.trials (10 * i.size);
-      seed = o.seed;
-      candidates = o.candidates;
-      or_segment = o.or_segment;
-      sweep = o.final_sweep;
+      runs = s.runs;
+      trials = unwrap_or s.max_trials (10 * i.size);
+      seed = s.seed;
+      candidates = s.max_candidates;
+      or_segment = s.or_segment;
+      sweep = s.final_sweep;
     }
 
 -- the best routes of the runs, with their cost, and a report of each run; the name of the problem, followed by the
 -- events of the runs, satisfies Watched
-pub record AreFound (o : BetweenOptions) (Watched : List Event → Type 0) (name : List ℕ) (i : Instance)
+pub record AreFound (s : SearchIs) (Watched : List Event → Type 0) (name : List ℕ) (i : Instance)
     (start : Option Solution) (solved : SolvedRoutes) : Type 0 where
-  pub are : AreSolved (route_task o i start) (λ shown. Watched (Begun name ∷ shown)) solved
-  pub sound : AreSound (route_task o i start) solved
+  pub are : AreSolved (route_task s i start) (λ shown. Watched (Begun name ∷ shown)) solved
+  pub sound : AreSound (route_task s i start) solved
 
-abbrev pub IsFoundBetween : BetweenOptions → (List Event → Type 0) → ProblemIs → Option Solution → SearchOutcome →
-    Type 0
-IsFoundBetween o Watched problem start (Between found) =
-    IsSomeAnd problem.routing (λ r. AreFound o Watched problem.name (instance_in problem r) start found.solved)
-IsFoundBetween o Watched problem start _ = ⊥
+abbrev pub IsFoundBetween : SearchIs → (List Event → Type 0) → ProblemIs → Option Solution → SearchOutcome → Type 0
+IsFoundBetween s Watched problem start (Between found) =
+    IsSomeAnd problem.routing (λ r. AreFound s Watched problem.name (instance_in problem r) start found.solved)
+IsFoundBetween s Watched problem start _ = ⊥
 
--- the task of a search with these options, whose events satisfy Watched
-abbrev pub between_task : BetweenOptions → (List Event → Type 0) → Task (Option Solution) SearchOutcome (Unit {0})
-between_task o Watched = record {
+-- the task of a search with these settings, whose events satisfy Watched
+abbrev pub between_task : SearchIs → (List Event → Type 0) → Task (Option Solution) SearchOutcome (Unit {0})
+between_task s Watched = record {
   misfit = without_routing;
   IsClash = λ problem start fault. IsSomeAnd problem.routing (λ r. IsStartFault (instance_in problem r) start fault);
   takes_memory = true;
-  Gives = λ problem start outcome _. IsFoundBetween o Watched problem start outcome;
+  Gives = λ problem start outcome _. IsFoundBetween s Watched problem start outcome;
 }
-
--- how a search ends without output, given its two sources and the observer before and after it
-abbrev pub FindsBetween : {P I V : Type 0} → sources.Ghosts P → sources.Ghosts I → watchers.Ghosts V → BetweenOptions →
-    P × I × V → P × I × V → Result SearchOutcome Fault → Type 0
-FindsBetween problems initials watchers options (problem, initial, watch) (problem', initial', watch') =
-    Ends (between_task options (WereShown watchers.shows watch watch')) (ReadsProblem problems problem problem')
-    (ReadsStart options.from_solution initials initial initial') WritesNothing
 
 -- ---- output
 
 -- the task of a search whose outcome is written
-abbrev pub between_files_task : BetweenOptions → (List Event → Type 0) → Task (Option Solution) (Unit {0}) Files
-between_files_task o Watched = written_as (between_task o Watched) (λ _. tt) (files_with [])
-
--- how solving ends, given the two sources, the two sinks and the observer before and after it
-abbrev pub SolvesBetween : {P I F W V : Type 0} → sources.Ghosts P → sources.Ghosts I → sinks.Ghosts F →
-    sinks.Ghosts W → watchers.Ghosts V → BetweenOptions → P × I × F × W × V → P × I × F × W × V →
-    Result (Unit {0}) Fault → Type 0
-SolvesBetween problems initials files outs watchers options (problem, initial, file, out, watch)
-    (problem', initial', file', out', watch') =
-    Ends (between_files_task options (WereShown watchers.shows watch watch')) (ReadsProblem problems problem problem')
-    (ReadsStart options.from_solution initials initial initial') (WritesFiles files outs file file' out out')
+abbrev pub between_files_task : SearchIs → (List Event → Type 0) → Task (Option Solution) (Unit {0}) Files
+between_files_task s Watched = written_as (between_task s Watched) (λ _. tt) (files_with [])

@@ -3,13 +3,14 @@
 -- written.
 --     Task      the task of an engine, whatever its sources and sinks
 --     ReadsProblem, ReadsTour, ReadsSolution, NoText      the contents of the text of a source
+--     ReadsGiven      likewise, if the text is given
 --     HasRead value      the contents of a text, once it has been read
 --     Ends task Problem Second Writes result      the stage that was reached, and what is known there
 --     written_as task answer_to text_of      the task whose outcome is written
 --     write_end written      the end of an engine, by that of its writer
 --     EndsByProblem      like Ends, but the problem decides how the second text is read
 --     BeforeSecond, UnlessWrite, AtWrite      a fact that is true at some of the stages
-use Rattle.std.specs.Prelude.{◌≡◌, ◌≢◌, ℕ, Bool, true, List, Option, Some, None, Result, Ok, Err}
+use Rattle.std.specs.Prelude.{◌≡◌, ◌≢◌, ℕ, Bool, true, false, List, Option, Some, None, Result, Ok, Err}
 use Rattle.tk_words.specs.Texts.{Texts, OfSource, IsAnswerIfSpecified, IsFaultIfSpecified, IsOfSomeText}
 use Rattle.tk_words.specs.Texts.{IsFaultOfSomeText}
 use Rattle.tk_problem_text.specs.Problem.{ProblemIs, problem_texts}
@@ -65,6 +66,18 @@ ReadsTour = Reads tour_texts faults.Tour
 abbrev pub ReadsSolution : {S : Type 0} → sources.Ghosts S → S → S → Reading Solution
 ReadsSolution = Reads solution_texts faults.Solution
 
+-- a source still has all of its bytes, and no read failed
+abbrev pub IsUnread : {S : Type 0} → sources.Ghosts S → S → S → Type 0
+IsUnread source old new = (source.left new ≡ source.left old) × (source.broken new ≡ source.broken old)
+
+-- a text is read if it is given; otherwise its source is not read
+abbrev pub ReadsGiven : {V S : Type 0} → Texts V TextFault → (TextFault → Fault) → Bool → sources.Ghosts S → S → S →
+    Reading (Option V)
+ReadsGiven texts wrap given source old new (Ok None) = (given ≡ false) × IsUnread source old new
+ReadsGiven texts wrap given source old new (Ok (Some value)) =
+    (given ≡ true) × Reads texts wrap source old new (Ok value)
+ReadsGiven texts wrap given source old new (Err f) = (given ≡ true) × Reads texts wrap source old new (Err f)
+
 -- there is no such text, so it has no fault
 abbrev pub NoText : Reading (Unit {0})
 NoText (Ok _) = Unit {0}
@@ -74,10 +87,6 @@ NoText (Err f) = ⊥
 abbrev pub HasRead : {V : Type 0} → V → Reading V
 HasRead v (Ok value) = value ≡ v
 HasRead v (Err f) = ⊥
-
--- a source still has all of its bytes, and no read failed
-abbrev pub IsUnread : {S : Type 0} → sources.Ghosts S → S → S → Type 0
-IsUnread source old new = (source.left new ≡ source.left old) × (source.broken new ≡ source.broken old)
 
 -- a sink has taken no byte, and no write failed
 abbrev pub IsUnwritten : {W : Type 0} → sinks.Ghosts W → W → W → Type 0

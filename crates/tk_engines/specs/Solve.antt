@@ -1,18 +1,20 @@
 -- The input, the search and the output of `solve`.
---     search_task p Watched      the task of a search with these parameters, whose events satisfy Watched
---     solve_task p Watched      like search_task, with the output
---     ReadsInitial given      the initial tour is read if the parameters name one
+--     search_task misfit s Watched      the task of a search with these settings, whose events satisfy Watched
+--     solve_task p Watched      like search_task, with the output, for these parameters
+--     settings_task given s Watched      likewise, for these settings, from an initial tour if one is given
+--     ReadsInitial given      the initial tour is read if one is given
 --     WritesFiles      `file` is written before `out`
 --     AreUntouched      neither of them has taken a byte
 --     HasFailed      a write to one of them failed
-use Rattle.std.specs.Prelude.{◌≡◌, ℕ, ◌⊎◌, Bool, true, false, List, [], ◌∷◌, Option, Some, None, IsSomeAnd}
-use Rattle.std.specs.Prelude.{Result, Ok, Err, is_none, is_some, option_map, unwrap_or, if◌then◌else◌}
+use Rattle.std.specs.Prelude.{◌≡◌, ℕ, ◌⊎◌, Bool, true, List, [], ◌∷◌, Option, Some, None, IsSomeAnd}
+use Rattle.std.specs.Prelude.{Ok, Err, is_none, is_some, option_map, unwrap_or, if◌then◌else◌}
 use Rattle.std.specs.Int.RustNames.{unsigned_abs}
 use Rattle.tk_problem_text.specs.Problem.{ProblemIs}
 use Rattle.tk_writers.specs.Puts.{Writes}
 use Rattle.tk_writers.specs.SolutionWritten.{solution_text}
 use Rattle.tk_writers.specs.TourWritten.{tour_text}
 use Rattle.tk_lists.specs.Solution.{lists_of}
+use Rattle.tk_lists.specs.Tour.{tour_texts}
 use Rattle.tk_lists.specs.declared.texts.TourText.{TourText}
 use Rattle.tk_words.specs.declared.sources.source.Source as sources
 use Rattle.tk_writers.specs.declared.output.sink.Sink as sinks
@@ -29,12 +31,10 @@ use Rattle.tk_routes.specs.Instance.{Instance}
 use Rattle.tk_solve.specs.SolvedRoutes.{AreSolved}
 use Rattle.tk_solve.specs.SolvedTours.{IsSolved, IsSound}
 use Rattle.tk_solve.specs.Starts.{Begins, AtNearest, AtSavings, At, TourTask}
-use Rattle.tk_solve.specs.Watching.{WereShown}
-use Rattle.tk_solve.specs.declared.watch.Watch as watchers
 use Rattle.tk_solve.specs.Events.{Event, Begun}
 use Rattle.tk_engines.specs.ReadProblems.{read_distance}
-use Rattle.tk_engines.specs.Engine.{Ends, IsUnread, IsUnwritten, Reading, ReadsProblem, ReadsTour, Task}
-use Rattle.tk_engines.specs.Engine.{Writing, WritesNothing, written_as}
+use Rattle.tk_engines.specs.Engine.{IsUnwritten, Reading, ReadsGiven, Task}
+use Rattle.tk_engines.specs.Engine.{Writing, written_as}
 use Rattle.tk_engines.specs.ReadProblems.{instance_in}
 use Rattle.tk_engines.specs.Lines.SolveLines.{search_lines}
 use Rattle.tk_engines.specs.declared.outcomes.search.FoundRoutes.{FoundRoutes}
@@ -44,6 +44,7 @@ use Rattle.tk_engines.specs.declared.outcomes.search.SearchOutcome.TheVariants.{
 use Rattle.tk_engines.specs.declared.outcomes.search.SearchOutcome.TheVariants.{Tour as Found}
 use Rattle.tk_engines.specs.declared.fault.Fault.{Fault}
 use Rattle.tk_engines.specs.declared.fault.Fault.TheVariants.{Initial, NoMemory, NotForType, Write}
+use Rattle.tk_engines.specs.declared.fault.Fault.TheVariants.{Tour as InTour}
 
 -- ---- input
 
@@ -55,15 +56,22 @@ unfit_key p problem =
     else (if is_some p.tour_file then Some keys.TourFile
     else (if is_some p.initial_tour_file then Some keys.InitialTourFile else None))
 
+-- why a problem does not fit these parameters
+abbrev pub misfit_of : ParamsAre → ProblemIs → Option Fault
+misfit_of p problem = option_map NotForType (unfit_key p problem)
+
+-- why a problem does not fit a search without keys: an initial tour is given, but the problem is a CVRP
+abbrev pub start_misfit : Bool → ProblemIs → Option Fault
+start_misfit given problem =
+    if given then (if is_none problem.routing then None else Some (NotForType keys.InitialTourFile)) else None
+
 -- the cities of the initial tour, if there is one
 abbrev pub cities_in : Option TourText → Option (List ℕ)
 cities_in tour = option_map (λ t. t.cities.items) tour
 
--- the initial tour is read if the parameters name its file; otherwise its source is not read
+-- the initial tour is read if one is given; otherwise its source is not read
 abbrev pub ReadsInitial : {S : Type 0} → Bool → sources.Ghosts S → S → S → Reading (Option (List ℕ))
-ReadsInitial given source old new (Ok None) = (given ≡ false) × IsUnread source old new
-ReadsInitial given source old new (Ok (Some cities)) = (given ≡ true) × ReadsTour source old new (Ok cities)
-ReadsInitial given source old new (Err f) = (given ≡ true) × ReadsTour source old new (Err f)
+ReadsInitial = ReadsGiven tour_texts InTour
 
 -- the fault of an initial tour with this verdict; None if it is a tour
 abbrev pub initial_fault : Verdict → Option Fault
@@ -130,21 +138,15 @@ IsFound s Watched problem initial (Routes found) =
     IsSomeAnd problem.routing (λ r. AreRoutesFound s (instance_in problem r) found) × Watched []
 IsFound s Watched problem initial (Between found) = ⊥
 
--- the task of a search with these parameters, whose events satisfy Watched
-abbrev pub search_task : ParamsAre → (List Event → Type 0) → Task (Option (List ℕ)) SearchOutcome (Unit {0})
-search_task p Watched = record {
-  misfit = λ problem. option_map NotForType (unfit_key p problem);
+-- the task of a search with these settings, whose events satisfy Watched
+abbrev pub search_task : (ProblemIs → Option Fault) → SearchIs → (List Event → Type 0) →
+    Task (Option (List ℕ)) SearchOutcome (Unit {0})
+search_task misfit s Watched = record {
+  misfit = misfit;
   IsClash = IsInitial;
   takes_memory = true;
-  Gives = λ problem initial outcome _. IsFound p.search Watched problem initial outcome;
+  Gives = λ problem initial outcome _. IsFound s Watched problem initial outcome;
 }
-
--- how a search ends without output, given its two sources and the observer before and after it
-abbrev pub FindsOutcome : {P I V : Type 0} → sources.Ghosts P → sources.Ghosts I → watchers.Ghosts V → ParamsAre →
-    P × I × V → P × I × V → Result SearchOutcome Fault → Type 0
-FindsOutcome problems initials watchers params (problem, initial, watch) (problem', initial', watch') =
-    Ends (search_task params (WereShown watchers.shows watch watch')) (ReadsProblem problems problem problem')
-    (ReadsInitial (is_some params.initial_tour_file) initials initial initial') WritesNothing
 
 -- ---- output
 
@@ -162,12 +164,12 @@ pub record Files : Type 0 where
 abbrev pub files_with : List Key → SearchOutcome → Files
 files_with ignored outcome = record { file = found_text outcome; out = search_lines ignored outcome }
 
-abbrev pub files_of : ParamsAre → SearchOutcome → Files
-files_of p outcome = files_with p.ignored outcome
-
 -- the task of a search whose outcome is written
 abbrev pub solve_task : ParamsAre → (List Event → Type 0) → Task (Option (List ℕ)) (Unit {0}) Files
-solve_task p Watched = written_as (search_task p Watched) (λ _. tt) (files_of p)
+solve_task p Watched = written_as (search_task (misfit_of p) p.search Watched) (λ _. tt) (files_with p.ignored)
+
+abbrev pub settings_task : Bool → SearchIs → (List Event → Type 0) → Task (Option (List ℕ)) (Unit {0}) Files
+settings_task given s Watched = written_as (search_task (start_misfit given) s Watched) (λ _. tt) (files_with [])
 
 -- the two sinks of the files
 module _ {F W : Type 0} (files : sinks.Ghosts F) (outs : sinks.Ghosts W) (file file' : F) (out out' : W) where
@@ -181,15 +183,6 @@ module _ {F W : Type 0} (files : sinks.Ghosts F) (outs : sinks.Ghosts W) (file f
   -- neither has taken a byte
   abbrev pub AreUntouched : Type 0
   AreUntouched = IsUnwritten files file file' × IsUnwritten outs out out'
-
--- how solving ends, given the two sources, the two sinks and the observer before and after it
-abbrev pub Solves : {P I F W V : Type 0} → sources.Ghosts P → sources.Ghosts I → sinks.Ghosts F → sinks.Ghosts W →
-    watchers.Ghosts V → ParamsAre → P × I × F × W × V → P × I × F × W × V → Result (Unit {0}) Fault → Type 0
-Solves problems initials files outs watchers params (problem, initial, file, out, watch)
-    (problem', initial', file', out', watch') =
-    Ends (solve_task params (WereShown watchers.shows watch watch')) (ReadsProblem problems problem problem')
-    (ReadsInitial (is_some params.initial_tour_file) initials initial initial')
-    (WritesFiles files outs file file' out out')
 
 -- a write to one of two sinks failed
 abbrev pub HasFailed : Bool → Bool → Type 0

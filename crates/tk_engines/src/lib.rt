@@ -8,14 +8,12 @@
 //! written nothing.
 #![tactic(auto)]
 
-mod between_options;
 mod engines;
 mod fault;
 mod lines;
 mod outcomes;
 mod route_fault;
 
-pub use between_options::BetweenOptions;
 pub use engines::between::{between_engine, between_outcome, search_between};
 pub use engines::check::{check_engine, tour_outcome, tour_outcome_of};
 pub use engines::info::{info_engine, info_outcome};
@@ -25,7 +23,8 @@ pub use engines::plot::plot_engine;
 pub use engines::plotted::Plotted;
 pub use engines::route_check::{route_check_engine, route_outcome, route_outcome_of};
 pub use engines::search::{search_outcome, search_problem};
-pub use engines::solve::{solve_engine, write_found};
+pub use engines::search_given::unfit_key;
+pub use engines::solve::{search_engine, solve_engine, write_found};
 pub use fault::Fault;
 pub use lines::between_lines::write_route_run_line;
 pub use lines::info_lines::{put_coordinate, write_info};

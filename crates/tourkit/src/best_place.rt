@@ -44,7 +44,8 @@ impl<'a> BestPlace<'a> {
         };
         let name = format!(in rt.alloc(); "{output}.best")?;
         let found = id_of(fs::metadata(rt, &name));
-        if inputs.is_protected(found) || !is_plain(rt, output) || !is_plain(rt, &name) {
+        let is_free = inputs.protect(search, "", found).is_ok();
+        if !is_free || !is_plain(rt, output) || !is_plain(rt, &name) {
             return Ok(None);
         }
         let mut place = BestPlace {

@@ -1,7 +1,6 @@
 //! Runs the program, given its arguments.
 
 use crate::commands::check::check_command;
-use crate::commands::checksol::checksol_command;
 use crate::commands::completions::completions_command;
 use crate::commands::explain::explain_command;
 use crate::commands::info::info_command;
@@ -14,6 +13,7 @@ use crate::report;
 use crate::words::words_of_call;
 use std::process::ExitCode;
 use tk_command_line::{Request, parse};
+use tk_engines::{RouteVerdict, TourOutcome};
 
 /// Parses the arguments of the program, runs the command that they request, and reports why it stops if it does.
 pub fn run_call(rt: &HostRuntime) -> ExitCode {
@@ -41,12 +41,12 @@ fn run<'a>(rt: &'a HostRuntime, request: Request<'a>) -> Result<ExitCode, Refusa
             problem,
             tours,
             json,
-        } => check_command(rt, problem, &tours, json),
+        } => check_command::<TourOutcome>(rt, problem, &tours, json),
         Request::Checksol {
             problem,
             solutions,
             json,
-        } => checksol_command(rt, problem, &solutions, json),
+        } => check_command::<RouteVerdict>(rt, problem, &solutions, json),
         Request::Completions { shell } => completions_command(rt, shell),
         Request::Explain { what, line } => explain_command(rt, what, line),
         Request::Info { problem, json } => info_command(rt, problem, json),

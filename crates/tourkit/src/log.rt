@@ -165,13 +165,7 @@ fn check_other<'a>(
     inputs: InputFiles,
     log: Option<FileId>,
 ) -> Result<(), Refusal<'a>> {
-    if log.is_none() {
-        return Ok(());
-    }
-    if log == inputs.parameters {
-        let misfit = KeyMisfit::ParameterFile;
-        return Err(Refusal::UnfitKey(search.file, OPTION, misfit));
-    }
+    inputs.protect(search, OPTION, log)?;
     match other_name(rt, search, inputs, log) {
         Some(other) => {
             let misfit = KeyMisfit::SameFile(other);
@@ -181,16 +175,16 @@ fn check_other<'a>(
     }
 }
 
-/// The key, option, argument or stream that names the same file as the log, if there is one.
+/// The key, option or stream that names the same file as the log, if there is one.
 fn other_name(
     rt: &HostRuntime,
     search: &Search<'_, '_>,
     inputs: InputFiles,
     log: Option<FileId>,
 ) -> Option<&'static str> {
+    log?;
     let found = |name: Option<&str>| name.and_then(|name| id_of(fs::metadata(rt, name)));
     let others = [
-        (Key::ProblemFile, inputs.problem),
         (Key::InitialTourFile, inputs.initial),
         (Key::TourFile, found(search.tour_file)),
         (Key::SolutionFile, found(search.solution_file)),

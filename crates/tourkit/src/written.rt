@@ -19,9 +19,24 @@ pub struct InputFiles {
 }
 
 impl InputFiles {
-    /// Whether the file that was found is the problem file or the parameter file, which must not be overwritten.
-    pub fn is_protected(&self, found: Option<FileId>) -> bool {
-        found.is_some() && (found == self.problem || found == self.parameters)
+    /// Rejects a key or an option, `name`, if it leads to the file that was found, and this is the problem file or the
+    /// parameter file, which must not be overwritten.
+    ///
+    /// # Errors
+    /// `Refusal::UnfitKey`
+    pub fn protect<'a>(
+        &self,
+        search: &Search<'_, 'a>,
+        name: &'static str,
+        found: Option<FileId>,
+    ) -> Result<(), Refusal<'a>> {
+        let misfit = match found {
+            None => return Ok(()),
+            _ if found == self.problem => KeyMisfit::SameFile(search.named(Key::ProblemFile)),
+            _ if found == self.parameters => KeyMisfit::ParameterFile,
+            _ => return Ok(()),
+        };
+        Err(Refusal::UnfitKey(search.file, name, misfit))
     }
 
     /// Whether the file that was found is that of the initial tour or solution.
@@ -41,32 +56,9 @@ pub fn check_written<'a>(
 ) -> Result<(), Refusal<'a>> {
     for key in [Key::TourFile, Key::SolutionFile] {
         if let Some(name) = search.file_of(key) {
-            check_other(rt, search, key, name, inputs)?;
+            inputs.protect(search, search.named(key), id_of(fs::metadata(rt, name)))?;
             find_place(rt, name)?;
         }
-    }
-    Ok(())
-}
-
-/// Rejects a name that leads to the problem file or the parameter file.
-fn check_other<'a>(
-    rt: &HostRuntime,
-    search: &Search<'_, 'a>,
-    key: Key,
-    name: &str,
-    inputs: InputFiles,
-) -> Result<(), Refusal<'a>> {
-    let Some(found) = id_of(fs::metadata(rt, name)) else {
-        return Ok(());
-    };
-    let named = search.named(key);
-    if inputs.problem == Some(found) {
-        let misfit = KeyMisfit::SameFile(search.named(Key::ProblemFile));
-        return Err(Refusal::UnfitKey(search.file, named, misfit));
-    }
-    if inputs.parameters == Some(found) {
-        let misfit = KeyMisfit::ParameterFile;
-        return Err(Refusal::UnfitKey(search.file, named, misfit));
     }
     Ok(())
 }

@@ -4,8 +4,8 @@ mod InMemory
 mod PlotTexts
 mod PointArrays
 mod Refusals
-mod RouteTexts
-mod SolveTexts
+mod SearchAnswers
+mod SearchTexts
 mod EngineStops
 mod TextsSaid
 mod Written

@@ -8,6 +8,7 @@ pub mod InfoStruct
 pub mod Outcomes
 pub mod Plotted
 pub mod Points
+pub mod Searches
 pub mod Solved
 pub mod SolvedRoutes
 pub mod Texts

@@ -1,61 +1,39 @@
--- The output of `solve` for texts in memory.
-use Rattle.std.specs.Prelude.{◌≡◌, ℕ, Bool, true, false, List, Option, None, Some, Ok, Err, is_some, option_map}
-use Rattle.tk_text.specs.Problem.{ProblemIs, problem_texts}
+-- The output of a search for a tour, or for routes that are improved each by itself, for texts in memory.
+use Rattle.std.specs.Prelude.{◌≡◌, ℕ, Bool, List, Option, Ok, Err, is_some}
+use Rattle.tk_text.specs.Problem.{ProblemIs}
 use Rattle.tk_text.specs.Tour.{tour_texts}
+use Rattle.tk_engines.specs.Engine.{Task}
 use Rattle.tk_engines.specs.Requested.{ParamsAre}
 use Rattle.tk_engines.specs.Params.{params_answer, params_texts}
-use Rattle.tk_words.specs.declared.fault.TextFault.{TextFault}
 use Rattle.tk_params.specs.declared.fault.ParamFault.{ParamFault}
+use Rattle.tk_solve.specs.Events.{Event}
 use Rattle.tk_solve.specs.Watching.{IsUnobserved, WereShown}
 use Rattle.tk_solve.specs.declared.watch.NoObserver.{NoObserver}
-use Rattle.tk_engines.specs.Solve.{Files, IsInitial, solve_task, unfit_key}
+use Rattle.tk_engines.specs.Solve.{Files, IsInitial, misfit_of, settings_task, solve_task, start_misfit}
 use Rattle.tk_engines.specs.declared.fault.Fault.{Fault}
-use Rattle.tk_engines.specs.declared.fault.Fault.TheVariants.{NotForType}
-use Rattle.tourkit_c.specs.Answers.{IsFaulty, IsRightRefusal}
+use Rattle.tourkit_c.specs.Answers.{IsStop, NoFault}
 use Rattle.tourkit_c.specs.Outcomes.{param_number, refused}
-use Rattle.tourkit_c.specs.Texts.{AreWritten, HasFault, TextSays}
+use Rattle.tourkit_c.specs.Searches.{IsOutputOf, IsSearchRefused, IsStartClash, IsStartFault, settings_of}
+use Rattle.tourkit_c.specs.Texts.{HasFault}
 use Rattle.tourkit_c.specs.declared.answer.Answer.{Answer}
+use Rattle.tourkit_c.specs.declared.search.SearchOptions.{SearchOptions}
 
--- the initial tour, if the parameters name one
-abbrev pub InitialSays : Bool → List ℕ → Option (List ℕ) → Type 0
-InitialSays given text None = given ≡ false
-InitialSays given text (Some cities) = (given ≡ true) × TextSays tour_texts text cities
+-- ---- any search
 
--- the output of a search with these parameters, for a problem and an initial tour: the text of the tour or of the
--- solution, and the lines that are printed. The observer of the search does nothing, so the search is whole
-pub record IsSolvedBy (p : ParamsAre) (problem initial : List ℕ) (files : Files) : Type 0 where
-  pub q : ProblemIs
-  pub tour : Option (List ℕ)
-  pub is_problem : TextSays problem_texts problem q
-  pub is_initial : InitialSays (is_some p.initial_tour_file) initial tour
-  pub together : IsInitial q tour None
-  pub before : NoObserver
-  pub after : NoObserver
-  pub gives : (solve_task p (WereShown IsUnobserved before after)).Gives q tour tt files
+-- the output of a search for a problem and an initial tour. The observer of the search does nothing
+abbrev pub IsSolvedBy : ((List Event → Type 0) → Task (Option (List ℕ)) (Unit {0}) Files) → Bool → List ℕ → List ℕ →
+    Files → Type 0
+IsSolvedBy task given problem initial files =
+    (before : NoObserver) × (after : NoObserver)
+    × IsOutputOf tour_texts (task (WereShown IsUnobserved before after)) given problem initial files
 
-pub record IsSolvedOf (parameters problem initial : List ℕ) (files : Files) : Type 0 where
-  pub p : ParamsAre
-  pub are : params_answer parameters ≡ Ok p
-  pub solved : IsSolvedBy p problem initial files
+-- why a search was stopped
+abbrev pub IsSolveStop : (ProblemIs → Option Fault) → Bool → List ℕ → List ℕ → Fault → Type 0
+IsSolveStop misfit given problem initial f =
+    IsStop misfit (IsStartClash tour_texts IsInitial given initial) (IsStartFault tour_texts given initial) NoFault
+    problem f
 
--- an initial tour is given, and has this fault as a tour of the problem's cities
-pub record IsClashOf (given : Bool) (initial : List ℕ) (q : ProblemIs) (f : Fault) : Type 0 where
-  pub is_given : given ≡ true
-  pub cities : List ℕ
-  pub is_tour : TextSays tour_texts initial cities
-  pub clash : IsInitial q (Some cities) (Some f)
-
--- the text of an initial tour is given, and has this fault
-abbrev pub IsInitialFault : Bool → List ℕ → ProblemIs → TextFault → Type 0
-IsInitialFault given initial p f = (given ≡ true) × HasFault tour_texts initial f
-
--- the text of an initial tour is given, and has the fault that the answer reports
-abbrev pub IsInitialFaulty : Bool → List ℕ → ProblemIs → Answer → Type 0
-IsInitialFaulty given initial p answer = (given ≡ true) × IsFaulty tour_texts 3 initial answer
-
--- why a problem does not fit the parameters: the first key that does not apply to its type
-abbrev pub misfit_of : ParamsAre → ProblemIs → Option Fault
-misfit_of p problem = option_map NotForType (unfit_key p problem)
+-- ---- a search with parameters
 
 -- the parameters have this fault; nothing is known if memory ran out or reading failed
 abbrev pub HasParamFault : List ℕ → ParamFault → Type 0
@@ -67,19 +45,24 @@ pub record AreParamsRefused (parameters : List ℕ) (answer : Answer) : Type 0 w
   pub reported : answer ≡ refused 1 fault.line (param_number fault.kind) answer.needed
   pub is : params_answer parameters ≡ Err fault
 
--- output that satisfies Solves was written to the two buffers
-abbrev pub HoldFiles : (Files → Type 0) → List ℕ → List ℕ → List ℕ → List ℕ → Answer → Type 0
-HoldFiles Solves out out' file file' answer =
-    (files : Files) × Solves files × AreWritten 0 files.out out out' files.file file file' answer
+-- the output of a search with the parameters of a text
+pub record IsSolvedOf (parameters problem initial : List ℕ) (files : Files) : Type 0 where
+  pub p : ParamsAre
+  pub are : params_answer parameters ≡ Ok p
+  pub solved : IsSolvedBy (solve_task p) (is_some p.initial_tour_file) problem initial files
 
--- the answer reports correctly why there was no search: the problem text or the initial tour has a fault, or a key does
--- not apply to the problem
-abbrev pub IsSearchRefused : ParamsAre → List ℕ → List ℕ → Answer → Type 0
-IsSearchRefused p problem initial answer =
-    IsRightRefusal (misfit_of p) (IsClashOf (is_some p.initial_tour_file) initial)
-    (IsInitialFaulty (is_some p.initial_tour_file) initial) 2 problem answer
-
--- like IsSearchRefused, for the parameters of a text
+-- the answer reports correctly why there was no search with the parameters of a text
 abbrev pub IsSolveRefused : List ℕ → List ℕ → List ℕ → Answer → Type 0
 IsSolveRefused parameters problem initial answer =
-    (p : ParamsAre) × (params_answer parameters ≡ Ok p) × IsSearchRefused p problem initial answer
+    (p : ParamsAre) × (params_answer parameters ≡ Ok p)
+    × IsSearchRefused tour_texts (misfit_of p) IsInitial (is_some p.initial_tour_file) 2 problem initial answer
+
+-- ---- a search with options
+
+-- the output of a search with options
+abbrev pub IsSearchedOf : SearchOptions → List ℕ → List ℕ → Files → Type 0
+IsSearchedOf o = IsSolvedBy (settings_task o.from_tour (settings_of o)) o.from_tour
+
+-- the answer reports correctly why there was no search with options
+abbrev pub IsOptionsRefused : SearchOptions → List ℕ → List ℕ → Answer → Type 0
+IsOptionsRefused o = IsSearchRefused tour_texts (start_misfit o.from_tour) IsInitial o.from_tour 1

@@ -15,6 +15,8 @@ mod info;
 mod near_and_matrix;
 mod plot;
 mod points;
+mod search;
+mod searches;
 mod solve;
 mod solve_routes;
 mod tables;

@@ -1,14 +1,15 @@
-//! Searches for tours and routes, for texts in memory.
+//! The search that a parameter file specifies, for texts in memory.
 ghost use Rattle.std.specs.Prelude.{◌≡◌, ◌≢◌, ◌≤◌, IfOk, IfErr, Ok, is_some};
 ghost use Rattle.tk_engines.specs.Params.{params_answer};
-ghost use Rattle.tourkit_c.specs.Answers.{IsStop, NoFault};
+ghost use Rattle.tk_engines.specs.Solve.{misfit_of, solve_task};
 ghost use Rattle.tourkit_c.specs.Outcomes.{with_status};
-ghost use Rattle.tourkit_c.specs.Solved.{AreParamsRefused, HasParamFault, IsClashOf, IsInitialFault};
-ghost use Rattle.tourkit_c.specs.Solved.{HoldFiles, IsSearchRefused, IsSolveRefused, IsSolvedBy, IsSolvedOf, misfit_of};
+ghost use Rattle.tourkit_c.specs.Searches.{HoldFiles};
+ghost use Rattle.tourkit_c.specs.Solved.{AreParamsRefused, HasParamFault, IsSolveRefused, IsSolveStop, IsSolvedBy};
+ghost use Rattle.tourkit_c.specs.Solved.{IsSolvedOf};
 ghost use Rattle.tourkit_c.specs.Texts.{IsSomeText};
 
-use crate::answer::{Answer, params_stopped, stopped};
-use crate::hand_out::hand_out;
+use crate::answer::{Answer, params_stopped};
+use crate::searches::answer_of;
 use std::alloc::Global;
 use tk_engines::{Fault, NoObserver, ParamFault, Params, read_params, solve_engine};
 use tk_text::{FromRead, ToWrite};
@@ -28,11 +29,10 @@ fn solved(
     problem: &[u8],
     initial: &[u8],
 ) -> Result<(Vec<u8>, Vec<u8>), Fault>
-    ensures ok { IfOk result (λ r. IsSolvedBy params.now problem.now initial.now
-        (record { file = r.0.items; out = r.1.items })) }
-    ensures err { IfErr result (IsStop (misfit_of params.now)
-        (IsClashOf (is_some params.now.initial_tour_file) initial.now)
-        (IsInitialFault (is_some params.now.initial_tour_file) initial.now) NoFault problem.now) }
+    ensures ok { IfOk result (λ r. IsSolvedBy (solve_task params.now) (is_some params.now.initial_tour_file)
+        problem.now initial.now (record { file = r.0.items; out = r.1.items })) }
+    ensures err { IfErr result (IsSolveStop (misfit_of params.now) (is_some params.now.initial_tour_file)
+        problem.now initial.now) }
 {
     let mut problem = FromRead::new(problem);
     let mut initial = FromRead::new(initial);
@@ -50,32 +50,6 @@ fn solved(
     ) {
         Ok(()) => Ok((file.inner, out.inner)),
         Err(fault) => Err(fault),
-    }
-}
-
-/// Searches as the parameters specify, and writes the two texts, or the message to `out`.
-fn search(
-    alloc: Global,
-    params: &Params,
-    problem: &[u8],
-    initial: &[u8],
-    out: &mut [u8],
-    file: &mut [u8],
-) -> Answer
-    ensures given { result.status ≤ 1
-        → HoldFiles (IsSolvedBy params.now problem.now initial.now) out.old out.new file.old file.new result }
-    ensures known { result.status ≤ 3 }
-    ensures refused { result.status ≡ 2 → IsSearchRefused params.now problem.now initial.now result }
-    ensures later { result.status ≡ 2 → result.text ≢ 1 }
-    ensures memory { result.status ≡ 3 → result ≡ with_status 3 result.needed }
-    ensures message { 2 ≤ result.status → IsSomeText out.old out.new result }
-    ensures kept { 2 ≤ result.status → file.new ≡ file.old }
-{
-    match solved(alloc, params, problem, initial) {
-        Ok((text, lines)) => {
-            Answer::ended_twice(0, hand_out(&lines, out), hand_out(&text, file))
-        }
-        Err(fault) => stopped(alloc, 2, &fault, out),
     }
 }
 
@@ -104,7 +78,13 @@ pub extern "C" fn tourkit_solve(
     ensures kept { 2 ≤ answer.new.status → file.new ≡ file.old }
 {
     *answer = match params_of(alloc, parameters) {
-        Ok(params) => search(alloc, &params, problem, initial, out, file),
+        Ok(params) => answer_of(
+            alloc,
+            2,
+            solved(alloc, &params, problem, initial),
+            out,
+            file,
+        ),
         Err(fault) => params_stopped(alloc, &fault, out),
     };
 }

@@ -1,16 +1,17 @@
 //! The input of a search between the routes of a CVRP: the initial solution, and the options of the search.
 ghost use Rattle.std.specs.Prelude.{◌≡◌, ◌≤◌, ◌*◌, IfErr, IfOk, MatchOption, None, Ok, Err, OnOk, Some, unwrap_or};
 ghost use Rattle.tk_lists.specs.Solution.{as_solution};
+ghost use Rattle.tk_params.specs.SearchOf.{search_is};
 ghost use Rattle.tk_routes.specs.Cvrps.{instance_of};
 ghost use Rattle.tk_route_search.specs.Tasks.{task_of};
 ghost use Rattle.tk_engines.specs.Between.{AreGivenRoutes, IsStartFault, IsStartRefused, ReadsStart, route_fault};
 ghost use Rattle.tk_engines.specs.Between.{route_task, solution_in};
 
-use crate::between_options::BetweenOptions;
 use crate::fault::Fault;
 use crate::route_fault::RouteFault;
 use std::alloc::Global;
 use tk_lists::{SolText, read_solution};
+use tk_params::SearchSettings;
 use tk_route_search::{RouteStart, SearchOptions};
 use tk_routes::{Cvrp, RouteVerdict, check_routes};
 use tk_words::Source;
@@ -79,25 +80,26 @@ pub(crate) fn check_start(
     }
 }
 
-/// The number of trials for each node, unless the options state the number of trials.
+/// The number of trials for each node, unless the settings state the number of trials.
 const TRIALS_PER_NODE: u32 = 10;
 
 /// The number of trials per run.
-fn trials_of(options: &BetweenOptions, cvrp: &Cvrp<'_>) -> u32
-    ensures value { result ≡ unwrap_or options.now.trials (10 * (instance_of cvrp.now).size) }
+fn trials_of(settings: &SearchSettings, cvrp: &Cvrp<'_>) -> u32
+    ensures value { result ≡ unwrap_or settings.now.max_trials (10 * (instance_of cvrp.now).size) }
     ensures some { (1 ≤ result) × (result ≤ 1000000) }
 {
     let nodes = cvrp.customers() + 1;
-    options.trials.unwrap_or(TRIALS_PER_NODE * nodes)
+    settings.max_trials.unwrap_or(TRIALS_PER_NODE * nodes)
 }
 
 /// The options of the search for routes of a CVRP.
 pub(crate) fn search_options<'a>(
-    options: &BetweenOptions,
+    settings: &SearchSettings,
     cvrp: &Cvrp<'_>,
     initial: &'a Option<SolText>,
 ) -> SearchOptions<'a>
-    ensures { task_of cvrp.now result ≡ route_task options.now (instance_of cvrp.now) (solution_in initial.now) }
+    ensures { task_of cvrp.now result
+        ≡ route_task (search_is settings.now) (instance_of cvrp.now) (solution_in initial.now) }
 {
     let start = match initial {
         Some(solution) => RouteStart::Routes(&solution.routes),
@@ -105,11 +107,11 @@ pub(crate) fn search_options<'a>(
     };
     SearchOptions {
         start,
-        runs: options.runs,
-        trials: trials_of(options, cvrp),
-        seed: options.seed,
-        candidates: options.candidates,
-        or_segment: options.or_segment,
-        final_sweep: options.final_sweep,
+        runs: settings.runs,
+        trials: trials_of(settings, cvrp),
+        seed: settings.seed,
+        candidates: settings.max_candidates,
+        or_segment: settings.or_segment,
+        final_sweep: settings.final_sweep,
     }
 }

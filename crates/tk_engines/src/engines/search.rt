@@ -1,6 +1,7 @@
 //! The search for a tour or for routes.
 ghost use Rattle.std.specs.Prelude.{◌≡◌, ◌≤◌, ◌∷◌, IfOk, IfErr, OnOk, MatchOption, None};
-ghost use Rattle.std.specs.Prelude.{is_some, length};
+ghost use Rattle.std.specs.Prelude.{Option, is_some, length, option_map};
+ghost use Rattle.tk_problem_text.specs.Problem.{ProblemIs};
 ghost use Rattle.tk_problem_text.specs.ProblemOf.{problem_is};
 ghost use Rattle.tk_params.specs.SearchOf.{search_is};
 ghost use Rattle.tk_tour.specs.Tour.{IsTour};
@@ -8,18 +9,22 @@ ghost use Rattle.tk_routes.specs.Cvrps.{instance_of};
 ghost use Rattle.tk_solve.specs.SolvedTours.{IsSolved, IsSound};
 ghost use Rattle.tk_solve.specs.Events.{Begun};
 ghost use Rattle.tk_solve.specs.Watching.{WereShown};
-ghost use Rattle.tk_engines.specs.Engine.{BeforeSecond, Ends, HasRead, IsUnread, WritesNothing};
-ghost use Rattle.tk_engines.specs.Solve.{AreRoutesFound, BeforeSearch, FindsOutcome, IsFound, IsInitial};
-ghost use Rattle.tk_engines.specs.Solve.{IsInitialRefused, IsTourFound, ReadsInitial, cities_in, search_task};
-ghost use Rattle.tk_engines.specs.Solve.{tour_task};
+ghost use Rattle.tk_engines.specs.Engine.{BeforeSecond, Ends, HasRead, IsUnread, ReadsProblem, WritesNothing};
+ghost use Rattle.tk_engines.specs.Solve.{AreRoutesFound, BeforeSearch, IsFound, IsInitial};
+ghost use Rattle.tk_engines.specs.Solve.{IsInitialRefused, IsTourFound, ReadsInitial, cities_in, misfit_of};
+ghost use Rattle.tk_engines.specs.Solve.{search_task, start_misfit, tour_task};
+ghost use Rattle.tk_engines.specs.declared.fault.Fault.{Fault};
+ghost use Rattle.tk_engines.specs.declared.fault.Fault.TheVariants.{NotForType};
 
-use crate::engines::search_given::{check_initial, options_of, read_initial, unfit};
+use crate::engines::search_given::{
+    check_initial, options_of, read_initial, unfit_key, unfit_start,
+};
 use crate::fault::Fault;
 use crate::outcomes::search::{FoundRoutes, FoundTour, SearchOutcome};
 use std::alloc::{AllocError, Global};
 use tk_distance::Table;
 use tk_lists::TourText;
-use tk_params::{Params, SearchSettings};
+use tk_params::{Key, Params, SearchSettings};
 use tk_problem::Problem;
 use tk_problem_text::read_problem;
 use tk_routes::Cvrp;
@@ -134,25 +139,27 @@ pub fn search_problem<V: Watch>(
     }
 }
 
-/// Like `search_outcome`, for a problem that has been read.
+/// Like [`search_problem`], for an initial tour that is read if it is given, unless a key does not apply.
 fn search_from<I: Source, V: Watch>(
     alloc: Global,
-    params: &Params,
+    settings: &SearchSettings,
+    unfit: Option<Key>,
+    given: bool,
     problem: &Problem,
     initial: &mut I,
     watch: &mut V,
 ) -> Result<SearchOutcome, Fault>
-    ensures ends { Ends (search_task params.now (WereShown V.shows watch.old watch.new))
-        (HasRead (problem_is problem.now))
-        (ReadsInitial (is_some params.now.initial_tour_file) I.Source initial.old initial.new) WritesNothing result }
+    ensures ends { (misfit : ProblemIs → Option Fault) → misfit (problem_is problem.now) ≡ option_map NotForType unfit
+        → Ends (search_task misfit (search_is settings.now) (WereShown V.shows watch.old watch.new))
+        (HasRead (problem_is problem.now)) (ReadsInitial given I.Source initial.old initial.new) WritesNothing result }
     ensures unread { IfErr result (BeforeSecond (IsUnread I.Source initial.old initial.new)) }
     ensures unwatched { IfErr result (BeforeSearch (watch.new ≡ watch.old)) }
 {
-    if let Some(key) = unfit(params, problem) {
+    if let Some(key) = unfit {
         return Err(Fault::NotForType(key));
     }
-    let tour = read_initial(alloc, params, initial)?;
-    search_problem(alloc, &params.search(), problem, &tour, watch)
+    let tour = read_initial(alloc, given, initial)?;
+    search_problem(alloc, settings, problem, &tour, watch)
 }
 
 /// Runs the search that parameters specify: for a short tour of a TSP, or for short routes of a CVRP.
@@ -173,13 +180,44 @@ pub fn search_outcome<P: Source, I: Source, V: Watch>(
     initial: &mut I,
     watch: &mut V,
 ) -> Result<SearchOutcome, Fault>
-    ensures ends { FindsOutcome P.Source I.Source V.Watch params.now (problem.old, initial.old, watch.old)
-        (problem.new, initial.new, watch.new) result }
+    ensures ends { Ends (search_task (misfit_of params.now) params.now.search (WereShown V.shows watch.old watch.new))
+        (ReadsProblem P.Source problem.old problem.new)
+        (ReadsInitial (is_some params.now.initial_tour_file) I.Source initial.old initial.new) WritesNothing result }
+    ensures unread { IfErr result (BeforeSecond (IsUnread I.Source initial.old initial.new)) }
+    ensures unwatched { IfErr result (BeforeSearch (watch.new ≡ watch.old)) }
+{
+    let settings = params.search();
+    let given = params.initial_tour_file().is_some();
+    match read_problem(alloc, problem) {
+        Ok(problem) => {
+            let unfit = unfit_key(params, &problem);
+            search_from(alloc, &settings, unfit, given, &problem, initial, watch)
+        }
+        Err(fault) => Err(Fault::Problem(fault)),
+    }
+}
+
+/// Like [`search_outcome`], for settings. `initial` is read if a tour is given.
+pub(crate) fn settings_outcome<P: Source, I: Source, V: Watch>(
+    alloc: Global,
+    settings: &SearchSettings,
+    given: bool,
+    problem: &mut P,
+    initial: &mut I,
+    watch: &mut V,
+) -> Result<SearchOutcome, Fault>
+    ensures ends { Ends
+        (search_task (start_misfit given) (search_is settings.now) (WereShown V.shows watch.old watch.new))
+        (ReadsProblem P.Source problem.old problem.new) (ReadsInitial given I.Source initial.old initial.new)
+        WritesNothing result }
     ensures unread { IfErr result (BeforeSecond (IsUnread I.Source initial.old initial.new)) }
     ensures unwatched { IfErr result (BeforeSearch (watch.new ≡ watch.old)) }
 {
     match read_problem(alloc, problem) {
-        Ok(problem) => search_from(alloc, params, &problem, initial, watch),
+        Ok(problem) => {
+            let unfit = unfit_start(given, &problem);
+            search_from(alloc, settings, unfit, given, &problem, initial, watch)
+        }
         Err(fault) => Err(Fault::Problem(fault)),
     }
 }

@@ -1,12 +1,14 @@
 //! The input of a search: a test that its keys apply to the problem, the initial tour, and the options of the search.
 ghost use Rattle.std.specs.Prelude.{◌≡◌, IfOk, IfErr, OnOk, Ok, Err, Some, None, MatchOption};
-ghost use Rattle.std.specs.Prelude.{is_some};
+ghost use Rattle.std.specs.Prelude.{option_map};
 ghost use Rattle.tk_problem_text.specs.ProblemOf.{problem_is, weights_are};
 ghost use Rattle.tk_tour.specs.Tour.{IsTour};
 ghost use Rattle.tk_params.specs.SearchOf.{search_is};
 ghost use Rattle.tk_solve.specs.Starts.{task_over};
 ghost use Rattle.tk_engines.specs.ReadProblems.{read_distance};
-ghost use Rattle.tk_engines.specs.Solve.{IsInitial, IsInitialRefused, ReadsInitial, cities_in, tour_task, unfit_key};
+ghost use Rattle.tk_engines.specs.Solve.{IsInitial, IsInitialRefused, ReadsInitial, cities_in, start_misfit};
+ghost use Rattle.tk_engines.specs.Solve.{tour_task, unfit_key};
+ghost use Rattle.tk_engines.specs.declared.fault.Fault.TheVariants.{NotForType};
 
 use crate::fault::Fault;
 use std::alloc::Global;
@@ -19,7 +21,7 @@ use tk_tour::{TourFault, Verdict, check};
 use tk_words::Source;
 
 /// The first key that does not apply to a problem of this type, if there is one.
-pub(crate) fn unfit(params: &Params, problem: &Problem) -> Option<Key>
+pub fn unfit_key(params: &Params, problem: &Problem) -> Option<Key>
     ensures { result ≡ unfit_key params.now (problem_is problem.now) }
 {
     if problem.routing.is_none() {
@@ -37,18 +39,26 @@ pub(crate) fn unfit(params: &Params, problem: &Problem) -> Option<Key>
     None
 }
 
-/// The initial tour, if the parameters name one; otherwise its source is not read.
+/// The key of an initial tour, if one is given for a CVRP.
+pub(crate) fn unfit_start(given: bool, problem: &Problem) -> Option<Key>
+    ensures { option_map NotForType result ≡ start_misfit given (problem_is problem.now) }
+{
+    if given && problem.routing.is_some() {
+        return Some(Key::InitialTourFile);
+    }
+    None
+}
+
+/// The initial tour, if one is given; otherwise its source is not read.
 pub(crate) fn read_initial<I: Source>(
     alloc: Global,
-    params: &Params,
+    given: bool,
     initial: &mut I,
 ) -> Result<Option<TourText>, Fault>
-    ensures ok { IfOk result (λ tour. ReadsInitial
-        (is_some params.now.initial_tour_file) I.Source initial.old initial.new (Ok (cities_in tour))) }
-    ensures err { IfErr result
-        (λ f. ReadsInitial (is_some params.now.initial_tour_file) I.Source initial.old initial.new (Err f)) }
+    ensures ok { IfOk result (λ tour. ReadsInitial given I.Source initial.old initial.new (Ok (cities_in tour))) }
+    ensures err { IfErr result (λ f. ReadsInitial given I.Source initial.old initial.new (Err f)) }
 {
-    if params.initial_tour_file().is_none() {
+    if !given {
         return Ok(None);
     }
     match read_tour(alloc, initial) {

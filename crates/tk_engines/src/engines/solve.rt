@@ -1,17 +1,20 @@
 //! The search for a tour or for routes, and its output.
-ghost use Rattle.std.specs.Prelude.{◌≡◌, ◌≤◌, ◌⊎◌, IfErr, OnErr, length};
+ghost use Rattle.std.specs.Prelude.{◌≡◌, ◌≤◌, ◌⊎◌, IfErr, OnErr, is_some, length};
 ghost use Rattle.tk_params.specs.Keys.{all_keys};
+ghost use Rattle.tk_params.specs.SearchOf.{search_is};
 ghost use Rattle.tk_writers.specs.Puts.{Writes};
 ghost use Rattle.tk_writers.specs.Sinks.{IsBroken};
-ghost use Rattle.tk_engines.specs.Engine.{AtWrite, BeforeSecond, IsUnread, UnlessWrite};
-ghost use Rattle.tk_engines.specs.Solve.{AreUntouched, BeforeSearch, Solves, WritesFiles, files_with, found_text};
+ghost use Rattle.tk_solve.specs.Watching.{WereShown};
+ghost use Rattle.tk_engines.specs.Engine.{AtWrite, BeforeSecond, Ends, IsUnread, ReadsProblem, UnlessWrite};
+ghost use Rattle.tk_engines.specs.Solve.{AreUntouched, BeforeSearch, ReadsInitial, WritesFiles, files_with};
+ghost use Rattle.tk_engines.specs.Solve.{found_text, settings_task, solve_task};
 
-use crate::engines::search::search_outcome;
+use crate::engines::search::{search_outcome, settings_outcome};
 use crate::fault::{Fault, end_of};
 use crate::lines::solve_lines::write_search_lines;
 use crate::outcomes::search::SearchOutcome;
 use std::alloc::Global;
-use tk_params::{Key, Params};
+use tk_params::{Key, Params, SearchSettings};
 use tk_solve::Watch;
 use tk_words::Source;
 use tk_writers::{Sink, WriteFault, write_solution, write_tour};
@@ -54,19 +57,12 @@ pub(crate) fn write_files<F: Sink, W: Sink>(
     write_search_lines(out, ignored, outcome)
 }
 
-/// Runs the search that parameters specify: for a short tour of a TSP, or for short routes of a CVRP. `file` gets the
-/// text of the tour or of the solution. Then `out` gets the keys that are not used, a line for each run or two for the
-/// routes, and the best length.
-///
-/// `initial` is read if the parameters name an INITIAL_TOUR_FILE. All texts are read before a byte is written. In a
-/// search for a tour, `watch` is shown the name of the problem, then each trial with the best tour of its run up to
-/// then, and each run after its last trial. All this is shown in order, and nothing else is. Between trials and between
-/// runs, `watch` can end the search. In a search for routes, `watch` is shown nothing.
+/// Runs the search that parameters specify, like [`search_outcome`]. `file` gets the text of the tour or of the
+/// solution. Then `out` gets the keys that are not used, a line for each run or two for the routes, and the best
+/// length. All texts are read before a byte is written.
 ///
 /// # Errors
-/// The fault of the problem text; `NotForType` for a key that does not apply to the problem's type; the fault of the
-/// text of the initial tour, or `Initial` if it is not a tour of the problem's cities; the fault of a write; or
-/// `NoMemory` if memory runs out.
+/// As for `search_outcome`, or the fault of a write.
 pub fn solve_engine<P: Source, I: Source, F: Sink, W: Sink, V: Watch>(
     alloc: Global,
     params: &Params,
@@ -76,9 +72,10 @@ pub fn solve_engine<P: Source, I: Source, F: Sink, W: Sink, V: Watch>(
     out: &mut W,
     watch: &mut V,
 ) -> Result<(), Fault>
-    ensures ends { Solves P.Source I.Source F.Sink W.Sink V.Watch params.now
-        (problem.old, initial.old, file.old, out.old, watch.old)
-        (problem.new, initial.new, file.new, out.new, watch.new) result }
+    ensures ends { Ends (solve_task params.now (WereShown V.shows watch.old watch.new))
+        (ReadsProblem P.Source problem.old problem.new)
+        (ReadsInitial (is_some params.now.initial_tour_file) I.Source initial.old initial.new)
+        (WritesFiles F.Sink W.Sink file.old file.new out.old out.new) result }
     ensures quiet { IfErr result (UnlessWrite (AreUntouched F.Sink W.Sink file.old file.new out.old out.new)) }
     ensures failed { IfErr result (AtWrite (IsBroken F.Sink file.new ⊎ IsBroken W.Sink out.new)) }
     ensures unread { IfErr result (BeforeSecond (IsUnread I.Source initial.old initial.new)) }
@@ -86,4 +83,30 @@ pub fn solve_engine<P: Source, I: Source, F: Sink, W: Sink, V: Watch>(
 {
     let outcome = search_outcome(alloc, params, problem, initial, watch)?;
     end_of(write_files(file, out, params.ignored(), &outcome))
+}
+
+/// Runs a search with these settings, like [`solve_engine`]. `initial` is read if `from_tour`.
+///
+/// # Errors
+/// As for `solve_engine`, with `NotForType` if the runs begin with an initial tour and the problem is a CVRP.
+pub fn search_engine<P: Source, I: Source, F: Sink, W: Sink, V: Watch>(
+    alloc: Global,
+    settings: &SearchSettings,
+    from_tour: bool,
+    problem: &mut P,
+    initial: &mut I,
+    file: &mut F,
+    out: &mut W,
+    watch: &mut V,
+) -> Result<(), Fault>
+    ensures ends { Ends (settings_task from_tour (search_is settings.now) (WereShown V.shows watch.old watch.new))
+        (ReadsProblem P.Source problem.old problem.new) (ReadsInitial from_tour I.Source initial.old initial.new)
+        (WritesFiles F.Sink W.Sink file.old file.new out.old out.new) result }
+    ensures quiet { IfErr result (UnlessWrite (AreUntouched F.Sink W.Sink file.old file.new out.old out.new)) }
+    ensures failed { IfErr result (AtWrite (IsBroken F.Sink file.new ⊎ IsBroken W.Sink out.new)) }
+    ensures unread { IfErr result (BeforeSecond (IsUnread I.Source initial.old initial.new)) }
+    ensures unwatched { IfErr result (BeforeSearch (watch.new ≡ watch.old)) }
+{
+    let outcome = settings_outcome(alloc, settings, from_tour, problem, initial, watch)?;
+    end_of(write_files(file, out, &[], &outcome))
 }

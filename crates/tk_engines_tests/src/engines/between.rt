@@ -6,8 +6,8 @@ use crate::engines::given::{AT_THE_TYPE, SQUARE, UNSUPPORTED};
 use std::alloc::Global;
 use std::process::Abort;
 use tk_engines::{
-    BetweenOptions, Fault, RouteFault, RouteProgress, RouteRun, RouteWatch, SearchOutcome,
-    between_engine, between_outcome, write_route_run_line,
+    Construction, Fault, RouteFault, RouteProgress, RouteRun, RouteWatch, SearchOutcome,
+    SearchSettings, between_engine, between_outcome, write_route_run_line,
 };
 use tk_text::{FromRead, Sink, TextFault, TextKind, ToWrite, WriteFault};
 
@@ -59,27 +59,27 @@ const NONE: Counts = Counts {
     runs: 0,
 };
 
-/// The options of one run from savings routes, with ten trials for each node.
-fn from_savings() -> BetweenOptions {
-    BetweenOptions {
-        from_solution: false,
+/// The settings of one run from savings routes, with ten trials for each node.
+fn from_savings() -> SearchSettings {
+    SearchSettings {
         runs: 1,
-        trials: None,
+        max_trials: None,
         seed: 1,
-        candidates: 12,
+        max_candidates: 12,
+        construction: Construction::Nearest,
         or_segment: 3,
         final_sweep: false,
     }
 }
 
-/// The options of two runs of three trials from an initial solution.
-fn from_a_solution() -> BetweenOptions {
-    BetweenOptions {
-        from_solution: true,
+/// The settings of two runs of three trials from an initial solution.
+fn from_a_solution() -> SearchSettings {
+    SearchSettings {
         runs: 2,
-        trials: Some(3),
+        max_trials: Some(3),
         seed: 1,
-        candidates: 12,
+        max_candidates: 12,
+        construction: Construction::Nearest,
         or_segment: 3,
         final_sweep: true,
     }
@@ -95,8 +95,13 @@ struct Solved {
     lines: Vec<u8>,
 }
 
-/// Runs the engine on options, a problem and an initial solution.
-fn solve(alloc: Global, options: &BetweenOptions, [problem, initial]: [&[u8]; 2]) -> Solved {
+/// Runs the engine on settings, a problem and an initial solution, which is read if `from_solution`.
+fn solve(
+    alloc: Global,
+    settings: &SearchSettings,
+    from_solution: bool,
+    [problem, initial]: [&[u8]; 2],
+) -> Solved {
     let mut problem = FromRead::new(problem);
     let mut initial = FromRead::new(initial);
     let mut file = ToWrite::new(Vec::new(alloc));
@@ -104,7 +109,8 @@ fn solve(alloc: Global, options: &BetweenOptions, [problem, initial]: [&[u8]; 2]
     let mut shown = NONE;
     let answer = between_engine(
         alloc,
-        options,
+        settings,
+        from_solution,
         &mut problem,
         &mut initial,
         &mut file,
@@ -122,7 +128,7 @@ fn solve(alloc: Global, options: &BetweenOptions, [problem, initial]: [&[u8]; 2]
 /// The initial solution is not read. With 7 elements no kick is drawn.
 #[test]
 fn begins_with_savings_routes(rt: HostRuntime) {
-    let solved = solve(rt.alloc(), &from_savings(), [TWO_SIDES, UNSUPPORTED]);
+    let solved = solve(rt.alloc(), &from_savings(), false, [TWO_SIDES, UNSUPPORTED]);
     expect_true(&rt, solved.answer == Ok(()));
     expect_true(
         &rt,
@@ -151,7 +157,7 @@ fn begins_with_savings_routes(rt: HostRuntime) {
 /// The first descent exchanges the ends of the two routes.
 #[test]
 fn begins_with_a_solution(rt: HostRuntime) {
-    let solved = solve(rt.alloc(), &from_a_solution(), [TWO_SIDES, CROSSING]);
+    let solved = solve(rt.alloc(), &from_a_solution(), true, [TWO_SIDES, CROSSING]);
     expect_true(&rt, solved.answer == Ok(()));
     expect_true(
         &rt,
@@ -181,7 +187,7 @@ fn begins_with_a_solution(rt: HostRuntime) {
 /// Checks that the engine reports the fault next to each problem and initial solution, and that it writes nothing.
 fn refuse(rt: &impl Abort, alloc: Global, rows: &[([&[u8]; 2], Fault)]) {
     for (texts, fault) in rows {
-        let solved = solve(alloc, &from_a_solution(), *texts);
+        let solved = solve(alloc, &from_a_solution(), true, *texts);
         expect_true(rt, solved.answer == Err(*fault));
         expect_true(rt, solved.shown == NONE);
         expect_true(rt, solved.file.is_empty());
@@ -243,6 +249,7 @@ fn writes_the_solution_first(rt: HostRuntime) {
     let answer = between_engine(
         rt.alloc(),
         &from_savings(),
+        false,
         &mut FromRead::new(TWO_SIDES),
         &mut FromRead::new(b"".as_slice()),
         &mut file,
@@ -273,6 +280,7 @@ fn finds_routes(rt: HostRuntime) {
     let outcome = between_outcome(
         rt.alloc(),
         &from_a_solution(),
+        true,
         &mut problem,
         &mut initial,
         &mut NONE,

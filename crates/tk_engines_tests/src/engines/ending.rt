@@ -6,8 +6,8 @@ use crate::engines::given::SQUARE;
 use std::alloc::Global;
 use std::process::Abort;
 use tk_engines::{
-    BetweenOptions, Progress, RouteProgress, RouteRun, RouteWatch, RunReport, SearchOutcome, Watch,
-    between_outcome, read_params, search_outcome,
+    Construction, Progress, RouteProgress, RouteRun, RouteWatch, RunReport, SearchOutcome,
+    SearchSettings, Watch, between_outcome, read_params, search_outcome,
 };
 use tk_text::FromRead;
 
@@ -188,19 +188,20 @@ fn expect_routes(
     shown: &[u8],
     trials: [u128; 3],
 ) {
-    let options = BetweenOptions {
-        from_solution: false,
+    let settings = SearchSettings {
         runs: 2,
-        trials: Some(3),
+        max_trials: Some(3),
         seed: 1,
-        candidates: 12,
-        or_segment: 3,
+        max_candidates: 12,
+        construction: Construction::Nearest,
         final_sweep: false,
+        or_segment: 3,
     };
     let mut watch = Ending::new(alloc, answers);
     let outcome = between_outcome(
         alloc,
-        &options,
+        &settings,
+        false,
         &mut FromRead::new(TWO_SIDES),
         &mut FromRead::new(b"".as_slice()),
         &mut watch,

@@ -4,8 +4,8 @@ use crate::engines::given::{BAKERY, SQUARE, TOUR, UNSUPPORTED};
 use std::alloc::Global;
 use std::process::Abort;
 use tk_engines::{
-    Fault, Key, NoObserver, Params, SearchOutcome, read_params, search_outcome, solve_engine,
-    write_found,
+    Fault, Key, NoObserver, Params, SearchOutcome, read_params, search_engine, search_outcome,
+    solve_engine, write_found,
 };
 use tk_text::{FromRead, Sink, ToWrite, WriteFault};
 use tk_tour::TourFault;
@@ -59,6 +59,34 @@ fn answer_to(rt: &impl Abort, alloc: Global, [params, problem, initial]: [&[u8];
     }
 }
 
+/// Runs the engine for settings on those of parameters, a problem and an initial tour, which is read if `from_tour`.
+fn search(
+    alloc: Global,
+    params: &Params,
+    from_tour: bool,
+    [problem, initial]: [&[u8]; 2],
+) -> Solved {
+    let mut problem = FromRead::new(problem);
+    let mut initial = FromRead::new(initial);
+    let mut file = ToWrite::new(Vec::new(alloc));
+    let mut out = ToWrite::new(Vec::new(alloc));
+    let answer = search_engine(
+        alloc,
+        &params.search(),
+        from_tour,
+        &mut problem,
+        &mut initial,
+        &mut file,
+        &mut out,
+        &mut NoObserver,
+    );
+    Solved {
+        answer,
+        file: file.inner,
+        lines: out.inner,
+    }
+}
+
 /// Checks that the engine has this answer, and has written these two texts.
 fn expect(rt: &impl Abort, solved: &Solved, want: Result<(), Fault>, [file, lines]: [&[u8]; 2]) {
     expect_true(rt, solved.answer == want);
@@ -82,6 +110,35 @@ fn writes_a_tour_and_its_runs(rt: HostRuntime) {
             b"NAME : p.40.tour\nCOMMENT : Length = 40\nTYPE : TOUR\nDIMENSION : 4\nTOUR_SECTION\n1\n3\n2\n4\n-1\nEOF\n",
             b"ignored MOVE_TYPE\nrun 1: start 48, best 40, trials 1, moves 1, tests 57, swaps 1\nbest 40\n",
         ],
+    );
+}
+
+/// A search with the settings of parameters is the same, apart from the keys that are ignored.
+#[test]
+fn searches_with_settings(rt: HostRuntime) {
+    let params = params_of(&rt, rt.alloc(), FROM_A_TOUR);
+    expect(
+        &rt,
+        &search(rt.alloc(), &params, true, [SQUARE, TOUR]),
+        Ok(()),
+        [
+            b"NAME : p.40.tour\nCOMMENT : Length = 40\nTYPE : TOUR\nDIMENSION : 4\nTOUR_SECTION\n1\n3\n2\n4\n-1\nEOF\n",
+            b"run 1: start 48, best 40, trials 1, moves 1, tests 57, swaps 1\nbest 40\n",
+        ],
+    );
+    let constructed = search(rt.alloc(), &params, false, [SQUARE, UNSUPPORTED]);
+    expect_true(&rt, constructed.answer == Ok(()));
+}
+
+/// An initial tour is rejected for a CVRP before it is read.
+#[test]
+fn rejects_a_tour_for_routes(rt: HostRuntime) {
+    let params = params_of(&rt, rt.alloc(), b"PROBLEM_FILE = p\n");
+    expect(
+        &rt,
+        &search(rt.alloc(), &params, true, [BAKERY, UNSUPPORTED]),
+        Err(Fault::NotForType(Key::InitialTourFile)),
+        [b"", b""],
     );
 }
 

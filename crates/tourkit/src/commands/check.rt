@@ -1,11 +1,12 @@
-//! The subcommand `check`.
-use crate::input::{open, open_two, problem_in};
+//! The subcommand `check`, and what it has in common with `checksol`.
+use crate::input::{Input, open, open_two, problem_in};
 use crate::objects::tour_object;
 use crate::printed::{Unprinted, print_judged, print_name};
-use crate::refusal::Refusal;
+use crate::refusal::{Misfit, Refusal};
 use crate::report::end_one;
+use std::alloc::Global;
 use std::process::ExitCode;
-use tk_engines::{TourOutcome, tour_outcome, tour_outcome_of, write_tour_outcome};
+use tk_engines::{Fault, TourOutcome, tour_outcome, tour_outcome_of, write_tour_outcome};
 use tk_problem::Problem;
 use tk_tour::Verdict;
 use tk_words::FromRead;
@@ -14,93 +15,122 @@ use tk_writers::ToWrite;
 /// Exit status: a check found a fault.
 pub const FOUND: u8 = 1;
 
-/// `check PROBLEM TOUR.. [--json]`.
+/// The outcome of checking a tour or a solution.
+pub trait Checked: Sized {
+    /// The outcome for the texts of a problem and of a tour or a solution.
+    fn of_texts(
+        alloc: Global,
+        problem: &mut FromRead<Input>,
+        claim: &mut FromRead<Input>,
+    ) -> Result<Self, Fault>;
+
+    /// The outcome for a problem that has been read.
+    fn of(alloc: Global, problem: &Problem, claim: &mut FromRead<Input>) -> Result<Self, Fault>;
+
+    /// Whether problems of this type have such tours or solutions.
+    fn applies_to(problem: &Problem) -> bool;
+
+    /// Prints the outcome, as a line or as JSON, with the name of the file if it is one of several. Returns the exit
+    /// status.
+    ///
+    /// # Errors
+    /// Why it was not printed.
+    fn print(self, rt: &HostRuntime, file: Option<&str>, json: bool) -> Result<u8, Unprinted>;
+}
+
+/// `check PROBLEM TOUR.. [--json]`, or the same for solutions.
 ///
 /// # Errors
 /// Why it stopped.
-pub fn check_command<'a>(
+pub fn check_command<'a, C: Checked>(
     rt: &HostRuntime,
     problem_file: &'a str,
-    tour_files: &[&'a str],
+    claim_files: &[&'a str],
     json: bool,
 ) -> Result<ExitCode, Refusal<'a>> {
-    let status = match tour_files {
-        [tour_file] => check_one(rt, problem_file, *tour_file, json)?,
-        _ => check_several(rt, problem_file, tour_files, json)?,
+    let status = match claim_files {
+        [claim_file] => check_one::<C>(rt, problem_file, *claim_file, json)?,
+        _ => check_several::<C>(rt, problem_file, claim_files, json)?,
     };
     Ok(ExitCode::from(status))
 }
 
-/// Checks a tour, and returns the exit status. Both files are opened before either is read.
-fn check_one<'a>(
+/// Checks a tour or a solution, and returns the exit status. Both files are opened before either is read.
+fn check_one<'a, C: Checked>(
     rt: &HostRuntime,
     problem_file: &'a str,
-    tour_file: &'a str,
+    claim_file: &'a str,
     json: bool,
 ) -> Result<u8, Refusal<'a>> {
-    let (problem, tour) = open_two(rt, problem_file, tour_file)?;
+    let (problem, claim) = open_two(rt, problem_file, claim_file)?;
     let mut problem = FromRead::new(problem);
-    match tour_outcome(rt.alloc(), &mut problem, &mut FromRead::new(tour)) {
-        Ok(outcome) => Ok(print(rt, None, outcome, json)?),
-        Err(fault) => Err(Refusal::stopped_by_claim(problem_file, tour_file, &fault)),
+    match C::of_texts(rt.alloc(), &mut problem, &mut FromRead::new(claim)) {
+        Ok(checked) => Ok(checked.print(rt, None, json)?),
+        Err(fault) => Err(Refusal::stopped_by_claim(problem_file, claim_file, &fault)),
     }
 }
 
-/// Checks several tours, and returns the highest exit status. The problem is read before any of them is opened.
-fn check_several<'a>(
+/// Checks several files, one after another, and returns the highest exit status. The problem is read before any of them
+/// is opened.
+fn check_several<'a, C: Checked>(
     rt: &HostRuntime,
     problem_file: &'a str,
-    tour_files: &[&'a str],
+    claim_files: &[&'a str],
     json: bool,
 ) -> Result<u8, Refusal<'a>> {
     let problem = problem_in(rt, problem_file)?;
-    check_each(rt, &problem, tour_files, json)
-}
-
-/// Checks tours, one after another, and returns the highest exit status.
-fn check_each<'a>(
-    rt: &HostRuntime,
-    problem: &Problem,
-    tour_files: &[&'a str],
-    json: bool,
-) -> Result<u8, Refusal<'a>> {
+    if !C::applies_to(&problem) {
+        return Err(Refusal::Unfit(problem_file, Misfit::NotRouting));
+    }
     let mut highest: u8 = 0;
-    for tour_file in tour_files {
-        let checked = check_file(rt, problem, *tour_file, json);
-        highest = highest.max(end_one(rt, *tour_file, checked, json)?);
+    for claim_file in claim_files {
+        let checked = check_file::<C>(rt, &problem, *claim_file, json);
+        highest = highest.max(end_one(rt, *claim_file, checked, json)?);
     }
     Ok(highest)
 }
 
-/// Checks one of several tours, and returns the exit status.
-fn check_file<'a>(
+/// Checks one of several files, and returns the exit status.
+fn check_file<'a, C: Checked>(
     rt: &HostRuntime,
     problem: &Problem,
-    tour_file: &'a str,
+    claim_file: &'a str,
     json: bool,
 ) -> Result<u8, Refusal<'a>> {
-    let tour = open(rt, tour_file)?;
-    match tour_outcome_of(rt.alloc(), problem, &mut FromRead::new(tour)) {
-        Ok(outcome) => Ok(print(rt, Some(tour_file), outcome, json)?),
-        Err(fault) => Err(Refusal::stopped(tour_file, &fault)),
+    let claim = open(rt, claim_file)?;
+    match C::of(rt.alloc(), problem, &mut FromRead::new(claim)) {
+        Ok(checked) => Ok(checked.print(rt, Some(claim_file), json)?),
+        Err(fault) => Err(Refusal::stopped(claim_file, &fault)),
     }
 }
 
-/// Prints the outcome, as a line or as JSON, with the name of the file if it is one of several. Returns the exit
-/// status.
-fn print(
-    rt: &HostRuntime,
-    file: Option<&str>,
-    outcome: TourOutcome,
-    json: bool,
-) -> Result<u8, Unprinted> {
-    if json {
-        print_judged(rt, file, tour_object(outcome))?;
-    } else {
-        print_name(rt, file)?;
-        write_tour_outcome(&mut ToWrite::new(rt.stdout()), &outcome)?;
+impl Checked for TourOutcome {
+    fn of_texts(
+        alloc: Global,
+        problem: &mut FromRead<Input>,
+        claim: &mut FromRead<Input>,
+    ) -> Result<Self, Fault> {
+        tour_outcome(alloc, problem, claim)
     }
-    Ok(status_of(outcome.verdict()))
+
+    fn of(alloc: Global, problem: &Problem, claim: &mut FromRead<Input>) -> Result<Self, Fault> {
+        tour_outcome_of(alloc, problem, claim)
+    }
+
+    fn applies_to(_problem: &Problem) -> bool {
+        true
+    }
+
+    fn print(self, rt: &HostRuntime, file: Option<&str>, json: bool) -> Result<u8, Unprinted> {
+        let status = status_of(self.verdict());
+        if json {
+            print_judged(rt, file, tour_object(self))?;
+        } else {
+            print_name(rt, file)?;
+            write_tour_outcome(&mut ToWrite::new(rt.stdout()), &self)?;
+        }
+        Ok(status)
+    }
 }
 
 /// The exit status: 0 for a tour, 1 for a fault.

@@ -20,7 +20,7 @@ use std::process::ExitCode;
 use tk_command_line::{DisplayOptions, STANDARD, SearchOptions};
 use tk_engines::{Fault, SearchOutcome, write_found, write_search_lines};
 use tk_params::{ParamFault, ParamKind, Params, read_params};
-use tk_words::{FromRead, Source, TextKind};
+use tk_words::{FromRead, TextKind};
 use tk_writers::ToWrite;
 
 /// `solve PARAMETERS`, or with options `solve PROBLEM`.
@@ -86,7 +86,8 @@ fn solve_problem<'a>(
     )
 }
 
-/// Runs a search. Before reading the problem or the initial tour, it opens both files and checks the output file.
+/// Runs a search. Before reading the problem or the initial tour, it opens both files, checks the output file, and sets
+/// up the observer.
 fn solve<'a>(
     rt: &'a HostRuntime,
     search: &Search<'_, 'a>,
@@ -100,36 +101,6 @@ fn solve<'a>(
         initial: initial.as_ref().and_then(|initial| initial.id(rt)),
     };
     check_written(rt, search, inputs)?;
-    let mut problem = FromRead::new(problem);
-    match initial {
-        Some(initial) => begin(
-            rt,
-            search,
-            inputs,
-            shown,
-            &mut problem,
-            &mut FromRead::new(initial),
-        ),
-        None => begin(
-            rt,
-            search,
-            inputs,
-            shown,
-            &mut problem,
-            &mut FromRead::new(b"".as_slice()),
-        ),
-    }
-}
-
-/// Runs the search, after setting up its observer.
-fn begin<'a, P: Source, I: Source>(
-    rt: &'a HostRuntime,
-    search: &Search<'_, 'a>,
-    inputs: InputFiles,
-    shown: DisplayOptions<'a>,
-    problem: &mut P,
-    initial: &mut I,
-) -> Result<ExitCode, Refusal<'a>> {
     let log = Log::open(rt, search, inputs, shown.log)?;
     let mut watch = SearchWatch::new(rt, search, inputs, shown.progress, log)?;
     match outcome_of(rt.alloc(), search, problem, initial, &mut watch) {
@@ -138,8 +109,8 @@ fn begin<'a, P: Source, I: Source>(
             finish(rt, search, &outcome, shown.json, &mut watch)
         }
         Err(Stop::Fault(fault)) => Err(stopped(rt, search, inputs, &fault)),
-        Err(Stop::NotForType(option)) => {
-            Err(Refusal::UnfitKey(search.problem, option, KeyMisfit::Type))
+        Err(Stop::NotForType(name)) => {
+            Err(Refusal::UnfitKey(search.problem, name, KeyMisfit::Type))
         }
     }
 }
@@ -221,9 +192,6 @@ fn stopped<'a>(
     match fault {
         Fault::Tour(_) | Fault::Solution(_) | Fault::Initial(_) | Fault::InitialRoutes(_) => {
             Refusal::stopped(search.initial.unwrap_or(""), fault)
-        }
-        Fault::NotForType(key) => {
-            Refusal::UnfitKey(search.problem, search.named(*key), KeyMisfit::Type)
         }
         Fault::Problem(text)
             if search.is_by_options()

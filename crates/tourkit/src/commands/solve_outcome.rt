@@ -1,16 +1,15 @@
 //! The search of `solve`, by the type of its problem.
+use crate::input::Input;
 use crate::search::{Requester, Search};
 use crate::watching::SearchWatch;
 use std::alloc::Global;
 use tk_command_line::SearchOptions;
-use tk_engines::{
-    BetweenOptions, Fault, SearchOutcome, search_between, search_outcome, search_problem,
-};
-use tk_lists::read_tour;
+use tk_engines::{Fault, SearchOutcome, search_between, search_problem, unfit_key};
+use tk_lists::{read_solution, read_tour};
 use tk_params::SearchSettings;
 use tk_problem::Problem;
 use tk_problem_text::read_problem;
-use tk_words::Source;
+use tk_words::FromRead;
 
 /// The default length of the near lists of a search between routes.
 const CANDIDATES: u32 = 12;
@@ -22,7 +21,7 @@ const RUNS: u32 = 1;
 pub enum Stop {
     /// A fault of an engine.
     Fault(Fault),
-    /// This option does not apply to the type of the problem.
+    /// This key or option does not apply to the type of the problem.
     NotForType(&'static str),
 }
 
@@ -32,48 +31,59 @@ impl From<Fault> for Stop {
     }
 }
 
-/// The outcome of a search. `initial` is read if each run begins with an initial tour or solution.
+/// The outcome of a search. Each run begins with the initial tour or solution, if there is one.
 ///
 /// # Errors
 /// Why the search stopped.
-pub fn outcome_of<P: Source, I: Source>(
+pub fn outcome_of(
     alloc: Global,
     search: &Search<'_, '_>,
-    problem: &mut P,
-    initial: &mut I,
+    problem: Input,
+    initial: Option<Input>,
     watch: &mut SearchWatch<'_>,
 ) -> Result<SearchOutcome, Stop> {
-    match search.requester {
-        Requester::Keys(params) => Ok(search_outcome(alloc, params, problem, initial, watch)?),
-        Requester::Options(options, settings) => {
-            let problem = read_problem(alloc, problem).map_err(Fault::Problem)?;
-            outcome_by_options(alloc, &settings, options, &problem, initial, watch)
+    let problem = read_problem(alloc, &mut FromRead::new(problem)).map_err(Fault::Problem)?;
+    let settings = match search.requester {
+        Requester::Keys(params) => {
+            if let Some(key) = unfit_key(params, &problem) {
+                return Err(Stop::NotForType(key.word()));
+            }
+            params.search()
         }
-    }
-}
-
-/// The outcome of a search that options request, for a problem that has been read.
-fn outcome_by_options<I: Source>(
-    alloc: Global,
-    settings: &SearchSettings,
-    options: &SearchOptions<'_>,
-    problem: &Problem,
-    initial: &mut I,
-    watch: &mut SearchWatch<'_>,
-) -> Result<SearchOutcome, Stop> {
-    let routing = problem.routing.is_some();
-    if let Some(option) = unfit(options, routing) {
-        return Err(Stop::NotForType(option));
-    }
-    if routing && !options.within_routes {
-        let terms = between_options(settings, options);
-        return Ok(search_between(alloc, &terms, problem, initial, watch)?);
-    }
-    let initial = match options.initial_tour {
-        Some(_) => Some(read_tour(alloc, initial).map_err(Fault::Tour)?),
+        Requester::Options(options, settings) => {
+            let routing = problem.routing.is_some();
+            if let Some(option) = unfit(options, routing) {
+                return Err(Stop::NotForType(option));
+            }
+            if routing && !options.within_routes {
+                let settings = between_settings(settings, options);
+                return between_routes(alloc, &settings, &problem, initial, watch);
+            }
+            settings
+        }
+    };
+    let initial = match initial {
+        Some(tour) => Some(read_tour(alloc, &mut FromRead::new(tour)).map_err(Fault::Tour)?),
         None => None,
     };
-    Ok(search_problem(alloc, settings, problem, &initial, watch)?)
+    Ok(search_problem(alloc, &settings, &problem, &initial, watch)?)
+}
+
+/// The outcome of a search between routes.
+fn between_routes(
+    alloc: Global,
+    settings: &SearchSettings,
+    problem: &Problem,
+    initial: Option<Input>,
+    watch: &mut SearchWatch<'_>,
+) -> Result<SearchOutcome, Stop> {
+    let initial = match initial {
+        Some(routes) => {
+            Some(read_solution(alloc, &mut FromRead::new(routes)).map_err(Fault::Solution)?)
+        }
+        None => None,
+    };
+    Ok(search_between(alloc, settings, problem, &initial, watch)?)
 }
 
 /// The first option that does not apply to a problem with routing, or to one without.
@@ -97,24 +107,14 @@ fn unfit(options: &SearchOptions<'_>, routing: bool) -> Option<&'static str> {
     None
 }
 
-/// The options of a search between routes. The settings have the values that were given; the defaults are those of this
-/// search.
-fn between_options(settings: &SearchSettings, options: &SearchOptions<'_>) -> BetweenOptions {
-    let runs = match options.runs {
-        Some(_) => settings.runs,
-        None => RUNS,
-    };
-    let candidates = match options.candidates {
-        Some(_) => settings.max_candidates,
-        None => CANDIDATES,
-    };
-    BetweenOptions {
-        from_solution: options.initial_solution.is_some(),
-        runs,
-        trials: settings.max_trials,
-        seed: settings.seed,
-        candidates,
-        or_segment: settings.or_segment,
-        final_sweep: settings.final_sweep,
+/// The settings of a search between routes: the values that were given, and the defaults of this search.
+fn between_settings(settings: SearchSettings, options: &SearchOptions<'_>) -> SearchSettings {
+    let mut settings = settings;
+    if options.runs.is_none() {
+        settings.runs = RUNS;
     }
+    if options.candidates.is_none() {
+        settings.max_candidates = CANDIDATES;
+    }
+    settings
 }

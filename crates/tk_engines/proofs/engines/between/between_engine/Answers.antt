@@ -1,4 +1,5 @@
 use Rattle.std.proofs.Common.{[]}
+use Rattle.tk_params.specs.SearchOf.{search_is}
 use Rattle.tk_engines.specs.Between.{between_task}
 use Rattle.tk_engines.specs.Engine.{BeforeSecond, UnlessWrite}
 use Rattle.tk_engines.specs.Solve.{AreUntouched, BeforeSearch, WritesFiles, files_with}
@@ -9,7 +10,7 @@ pub returns : goal.returns
 returns g c =
     let written = c.write_files in
     record {
-      ends = ends_as (between_task c.args.options.now _) (files_with []) _ _
+      ends = ends_as (between_task (search_is c.args.settings.now) _) (files_with []) _ _
           (WritesFiles g.F.Sink g.W.Sink c.args.file.now written.new.file c.args.out.now written.new.out)
           c.in_ok-outcome.outcome c.in_ok-outcome.ensures.ends written.result written.ensures.text c.end_of.result
           c.end_of.ensures;

@@ -6,4 +6,4 @@ use Rattle.tk_engines.proofs.engines.between.between_outcome.Goals as goal
 pub returns-in-Ok-clause-ends : goal.returns-in-Ok-clause-ends
 returns-in-Ok-clause-ends g c =
     problem_read _ _ _ WritesNothing _ (is_read c.in-Ok.ensures.reads)
-    c.search_between.result c.search_between.ensures.ends
+    c.search_from.result c.search_from.ensures.ends

@@ -22,5 +22,5 @@ invariant_of-result g c =
         table_size-limit c.args.cvrp.now.table,
       );
       few_customers = omega (arith, valid.once.0, table_size-limit c.args.cvrp.now.table);
-      few_runs = few_reports _ _ _ _ _ solved found;
+      few_runs = few_reports _ _ _ _ _ solved c.args.settings.now.some_runs.1 found;
     }

@@ -1,4 +1,5 @@
 use Rattle.std.proofs.Common.{ap}
+use Rattle.tk_params.specs.SearchOf.{search_is}
 use Rattle.tk_routes.specs.Cvrps.{instance_of}
 use Rattle.tk_route_search.specs.Tasks.{RouteTask}
 use Rattle.tk_route_search.specs.Watching.{WereShown, nothing, next}
@@ -16,7 +17,7 @@ search_routes-requires g c = record {
 pub returns : goal.returns
 returns g c =
     let begun = next nothing c.begin.ensures in
-    IfOk-found c.search_routes.result c.args.options.now c.args.name.now (instance_of c.args.cvrp.now)
+    IfOk-found c.search_routes.result (search_is c.args.settings.now) c.args.name.now (instance_of c.args.cvrp.now)
     (solution_in c.args.initial.now) _ (WereShown g.V.RouteWatch.shows c.begin.new.self c.search_routes.new.watch)
     (WereShown g.V.RouteWatch.shows c.args.watch.now c.search_routes.new.watch) c.search_options-options.ensures
     (λ shown is. shown_both begun is) c.search_routes.ensures.solved c.search_routes.ensures.sound

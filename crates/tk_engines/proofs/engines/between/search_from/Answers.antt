@@ -1,22 +1,15 @@
-use Rattle.std.proofs.Common.{refl}
-use Rattle.tk_engines.proofs.BetweenEnds.{found_ends, memory_ended, start_failed}
-use Rattle.tk_engines.proofs.SolveEnds.{unwatched}
+use Rattle.std.proofs.Common.{◌≡◌, None, rules}
+use Rattle.tk_problem_text.specs.ProblemOf.{problem_is}
+use Rattle.tk_engines.specs.Engine.{WritesNothing}
+use Rattle.tk_engines.specs.RouteCheck.{without_routing}
+use Rattle.tk_engines.proofs.EngineEnds.{second_reached, second_read}
 use Rattle.tk_engines.proofs.engines.between.search_from.Goals as goal
 
-pub returns-in_err-check_start : goal.returns-in_err-check_start
-returns-in_err-check_start g c =
-    let result = c.from_residual.result in
-    let fault = c.in_err-check_start.field-0.0 in
-    record {
-      ends = start_failed _ _ c.args.problem.now _ c.requires _ fault result c.from_residual.ensures.1
-          c.in_err-check_start.ensures.err;
-      unwatched = unwatched _ refl result;
-    }
+pub returns-clause-ends : goal.returns-clause-ends
+returns-clause-ends g c =
+    second_read _ _ _ WritesNothing _ c.in_ok-start.ensures.ok c.search_between.result c.search_between.ensures.ends
 
-pub returns-in-Ok-clause-ends : goal.returns-in-Ok-clause-ends
-returns-in-Ok-clause-ends g c =
-    found_ends _ _ c.args.problem.now _ c.requires _ c.in-Ok.found c.in_ok-check_start.ensures.is
-    (rw c.deref.ensures.value at c.in-Ok.ensures)
-
-pub returns-in-Err-clause-ends : goal.returns-in-Err-clause-ends
-returns-in-Err-clause-ends g c = memory_ended _ _ c.args.problem.now _ c.requires _
+pub returns-clause-unread : goal.returns-clause-unread
+returns-clause-unread g c =
+    let fits : without_routing (problem_is c.args.problem.now) ≡ None = search rules in
+    second_reached _ _ _ WritesNothing _ fits c.search_between.result c.search_between.ensures.ends

@@ -1,5 +1,5 @@
 use Rattle.tk_engines.specs.Engine.{BeforeSecond, UnlessWrite}
-use Rattle.tk_engines.specs.Solve.{AreUntouched, BeforeSearch, WritesFiles, files_of, search_task}
+use Rattle.tk_engines.specs.Solve.{AreUntouched, BeforeSearch, WritesFiles, files_with, misfit_of, search_task}
 use Rattle.tk_engines.proofs.EngineEnds.{ends_as, failed_as, if_unwritten}
 use Rattle.tk_engines.proofs.engines.solve.solve_engine.Goals as goal
 
@@ -7,7 +7,8 @@ pub returns : goal.returns
 returns g c =
     let written = c.write_files in
     record {
-      ends = ends_as (search_task c.args.params.now _) (files_of c.args.params.now) _ _
+      ends = ends_as (search_task (misfit_of c.args.params.now) c.args.params.now.search _)
+          (files_with c.args.params.now.ignored) _ _
           (WritesFiles g.F.Sink g.W.Sink c.args.file.now written.new.file c.args.out.now written.new.out)
           c.in_ok-outcome.outcome c.in_ok-outcome.ensures.ends written.result
           (rw c.ignored.ensures.value at written.ensures.text) c.end_of.result c.end_of.ensures;
