@@ -8,11 +8,11 @@ compile_baseline() {
     rustc --edition 2024 -C opt-level=3 --check-cfg 'cfg(segments)' -o "$baseline" "${1:-$here}/baseline.rs"
 }
 
-# Finds the program of the crate tk_bench, which `rt run` proves and builds, and compiles the baseline. Sets $program, $work and $baseline.
+# Finds the program of the crate tk_calls, which `rt run` proves and builds, and compiles the baseline. Sets $program, $work and $baseline.
 find_programs() {
-    program=$here/../../crates/tk_bench/out/tk_bench
+    program=$here/../../crates/tk_calls/out/tk_calls
     if [ ! -x "$program" ]; then
-        echo "$0: there is no crates/tk_bench/out/tk_bench; \`rt run\` in crates/tk_bench proves and builds it" >&2
+        echo "$0: there is no crates/tk_calls/out/tk_calls; \`rt run\` in crates/tk_calls proves and builds it" >&2
         exit 2
     fi
     compile_baseline

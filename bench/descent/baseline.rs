@@ -268,7 +268,7 @@ fn run(name: &str, plane: &Plane, near: &Near, order: &[u32], look: fn(&Tour, &P
     }
 }
 
-/// Whether a call asks for the small run, whose results are those of `tk_bench`'s small run.
+/// Whether a call asks for the small run, whose results are those of `tk_calls`'s small run.
 fn is_small() -> bool {
     std::env::args().any(|word| word == "small")
 }

@@ -231,7 +231,7 @@ fn time_units(name: &str, span: i64, sizes: Sizes, units: i64) {
     time(name, span, sizes.steps, &places, |a, b| unit_exact(a, b, units as u64));
 }
 
-/// Whether a call asks for the small run, whose results are those of `tk_bench`'s small run.
+/// Whether a call asks for the small run, whose results are those of `tk_calls`'s small run.
 fn is_small() -> bool {
     std::env::args().any(|word| word == "small")
 }

@@ -243,7 +243,7 @@ fn digest(cities: &[u32]) -> u64 {
     cities.iter().fold(0, |digest: u64, city| digest.wrapping_mul(31).wrapping_add(*city as u64))
 }
 
-/// Whether a call asks for the small run, whose results are those of `tk_bench`'s small run.
+/// Whether a call asks for the small run, whose results are those of `tk_calls`'s small run.
 fn is_small() -> bool {
     std::env::args().any(|word| word == "small")
 }

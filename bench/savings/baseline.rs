@@ -132,7 +132,7 @@ fn time(name: &str, count: usize, k: usize, wide: u64, tall: u64) {
     println!("{name} {count} K {k} lists: {micros} us, lists {}, cities {}", lists.len(), digest(lists.iter().flatten().copied()));
 }
 
-/// Whether a call asks for the small run, whose results are those of `tk_bench`'s small run.
+/// Whether a call asks for the small run, whose results are those of `tk_calls`'s small run.
 fn is_small() -> bool {
     std::env::args().any(|word| word == "small")
 }

@@ -6,9 +6,9 @@
 # usage: bench/segments/run.sh [ROUNDS]
 set -e
 here=$(cd "$(dirname "$0")" && pwd)
-program=$here/../../crates/tk_bench/out/tk_bench
+program=$here/../../crates/tk_calls/out/tk_calls
 if [ ! -x "$program" ]; then
-    echo "$0: there is no crates/tk_bench/out/tk_bench; \`rt run\` in crates/tk_bench proves and builds it" >&2
+    echo "$0: there is no crates/tk_calls/out/tk_calls; \`rt run\` in crates/tk_calls proves and builds it" >&2
     exit 2
 fi
 round=0

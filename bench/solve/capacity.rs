@@ -41,8 +41,9 @@ impl Capacity<'_> {
     /// The load of a path before its first copy of the depot, and whether it has one. The walk ends where the load is more than `most`.
     #[inline(always)]
     fn ahead(&self, s: &Store, walk: Walk, most: u64) -> (u64, bool) {
-        let (mut load, mut c) = (0, walk.from);
+        let (mut load, mut k, n) = (0, s.place_of(walk.from), s.size() as u32);
         loop {
+            let c = s.city_at(k);
             if self.is_copy(c) {
                 return (load, true);
             }
@@ -50,7 +51,10 @@ impl Capacity<'_> {
             if load > most || c == walk.to {
                 return (load, false);
             }
-            c = if walk.forward { s.next(c) } else { s.prev(c) };
+            k = match walk.forward {
+                true => if k + 1 == n { 0 } else { k + 1 },
+                false => if k == 0 { n - 1 } else { k - 1 },
+            };
         }
     }
 

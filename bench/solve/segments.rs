@@ -248,6 +248,12 @@ impl Tour {
         self.order[if s.back { s.hi - 1 - d } else { s.lo + d } as usize]
     }
 
+    /// The place of a city in the order.
+    pub fn place_of(&self, c: u32) -> u32 {
+        let (from, to) = if self.view.down { (self.virt(c), self.view.off) } else { (self.view.off, self.virt(c)) };
+        if from <= to { to - from } else { to + self.n - from }
+    }
+
     /// The index of the segment that has a virtual place.
     fn index_of(&self, v: u32) -> usize {
         let (mut low, mut size) = (0, self.view.seq.len());

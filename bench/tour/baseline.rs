@@ -79,7 +79,7 @@ fn flip_often(tour: &mut ArrayTour, flips: u32) -> u32 {
     tour.next(1)
 }
 
-/// Whether a call asks for the small run, whose results are those of `tk_bench`'s small run.
+/// Whether a call asks for the small run, whose results are those of `tk_calls`'s small run.
 fn is_small() -> bool {
     std::env::args().any(|word| word == "small")
 }

@@ -7,6 +7,7 @@ use crate::readers::problem_of;
 use crate::refusals::Stopped;
 use tk_metric::{
     BothAxes, Metric, Near, Planar, Table, near_among, near_scan, near_sweep, near_tree,
+    near_tree_among,
 };
 use tk_text::{CANDIDATE_LIMIT, Problem};
 
@@ -92,6 +93,32 @@ fn search_tree<P: BothAxes>(rt: &HostRuntime, places: &P) -> Result<(), Stopped>
     )
 }
 
+/// Finds near lists of two of the first three cities by a tree.
+fn search_tree_part<P: BothAxes>(rt: &HostRuntime, places: &P) -> Result<(), Stopped>
+    requires { 2 < P.size_of places.now }
+{
+    let alloc = rt.alloc();
+    show_answer(
+        rt,
+        "near_tree_among",
+        again!(rt, "near_tree_among", near_tree_among(alloc, places, 3, 2)),
+    )
+}
+
+/// Shortens near lists of two cities to one city.
+fn shorten<P: Planar>(rt: &HostRuntime, places: &P) -> Result<(), Stopped>
+    requires { 2 < P.size_of places.now }
+{
+    let alloc = rt.alloc();
+    let near = again!(rt, "near_sweep", near_sweep(alloc, places, 2))?;
+    show(rt, "near_sweep", &near)?;
+    show_answer(
+        rt,
+        "Near::shortened",
+        again!(rt, "Near::shortened", near.shortened(alloc, 1)),
+    )
+}
+
 /// Finds the near lists of a problem in the plane in each way.
 fn find_each(rt: &HostRuntime, problem: &Problem) -> Result<(), Stopped> {
     let Table::Planes(planes) = Table::of(problem) else {
@@ -103,7 +130,9 @@ fn find_each(rt: &HostRuntime, problem: &Problem) -> Result<(), Stopped> {
     scan(rt, &planes)?;
     scan_part(rt, &planes)?;
     sweep(rt, &planes)?;
-    search_tree(rt, &planes)
+    search_tree(rt, &planes)?;
+    search_tree_part(rt, &planes)?;
+    shorten(rt, &planes)
 }
 
 /// Finds near lists in each way.

@@ -1,9 +1,15 @@
-//! Calls of the libraries for tests, which are made again if memory runs out.
+//! Calls of the libraries for tests, which are made again if memory runs out, and benchmarks.
+//!
+//! A call without arguments makes all calls of the libraries and a small run of each benchmark. Its lines contain only
+//! results, so that they are the same each time. With the argument `calls`, no benchmark is run. With the name of a
+//! benchmark, the program makes only the run of this benchmark, whose lines contain times.
 //!
 //! If memory runs out in a call, this is printed, and the call is made again. `tests/refusals/calls` makes one
 //! allocation after another fail, and compares the lines.
 #![tactic(auto)]
 
+mod benchmarks;
+mod call;
 mod improving;
 mod instances;
 mod lines;
@@ -20,10 +26,7 @@ use crate::refusals::Stopped;
 use std::process::ExitCode;
 
 fn main(rt: HostRuntime) -> ExitCode {
-    match make_calls(&rt) {
-        Ok(()) => ExitCode::SUCCESS,
-        Err(_) => ExitCode::FAILURE,
-    }
+    call::run_call(&rt)
 }
 
 /// Makes all calls.

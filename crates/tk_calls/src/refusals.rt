@@ -2,13 +2,14 @@
 ghost use Rattle.std.specs.Prelude.{◌≡◌, IfOk, Ok};
 
 use std::alloc::AllocError;
-use std::io;
+use std::error::Error;
+use std::{fmt, io};
 use tk_engines::{ParamFault, ParamKind};
 use tk_text::{TextFault, TextKind};
 use tk_tour::TourFault;
 
 /// Why a call has no value. It is made again if memory ran out.
-#[derive(Clone, Copy)]
+#[derive(Clone, Copy, Debug)]
 pub enum Stopped {
     /// Memory ran out.
     NoMemory,
@@ -26,6 +27,17 @@ impl Stopped {
         }
     }
 }
+
+impl fmt::Display for Stopped {
+    fn fmt<W: fmt::Write>(&self, f: &mut fmt::Formatter<W>) -> fmt::Result {
+        f.write_str(match self {
+            Stopped::NoMemory => "memory ran out twice in a call",
+            Stopped::Otherwise => "a call failed",
+        })
+    }
+}
+
+impl Error for Stopped {}
 
 impl From<AllocError> for Stopped {
     fn from(_: AllocError) -> Stopped {
@@ -52,8 +64,8 @@ impl From<TourFault> for Stopped {
 }
 
 impl From<io::Error> for Stopped {
-    fn from(_: io::Error) -> Stopped {
-        Stopped::Otherwise
+    fn from(error: io::Error) -> Stopped {
+        Stopped::of_call(error.kind() == io::ErrorKind::OutOfMemory)
     }
 }
 

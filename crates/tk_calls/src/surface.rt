@@ -23,7 +23,7 @@ pub mod limits {
 pub mod distances {
     pub use tk_metric::{
         BothAxes, Metric, Near, Planar, Planes, Sub, SwappedAxes, Table, Triangle, near_among,
-        near_lists, near_scan, near_sweep, near_tree, root, root_up,
+        near_lists, near_scan, near_sweep, near_tree, near_tree_among, root, root_up,
     };
 }
 

@@ -3,8 +3,9 @@ ghost use Rattle.std.specs.Prelude.{◌≡◌, ◌≤◌, All, length};
 ghost use Rattle.tk_problem.specs.declared.limits.TheConstants.{CITY_LIMIT};
 ghost use Rattle.tk_distance.specs.Cities.{IsCity};
 
-use crate::metric::Metric;
+use crate::metric::{BothAxes, Metric, Planar};
 use std::alloc::AllocError;
+use tk_problem::Point;
 
 /// The distances among the cities of a list, numbered from 1 in its order. A city can occur in it more than once.
 pub struct Sub<'a, M: Metric> {
@@ -68,4 +69,36 @@ impl<M: Metric> Metric for Sub<'_, M> {
         let (a, b) = (self.cities[a as usize - 1], self.cities[b as usize - 1]);
         self.metric.is_nearer(a, b, limit)
     }
+}
+
+impl<P: Planar> Planar for Sub<'_, P> {
+    ghost use Rattle.tk_distance.specs.Cities.{city_at};
+
+    ghost place_of = { λ m c. P.place_of m.metric.now (city_at m.cities.now c) };
+
+    ghost floor = { λ m. P.floor m.metric.now };
+
+    ghost wide = { λ m a b. P.wide m.metric.now (city_at m.cities.now a) (city_at m.cities.now b) };
+
+    ghost floor_rises = { λ m. P.floor_rises m.metric.now };
+
+    ghost floor_bounds = { λ m a b. P.floor_bounds m.metric.now (city_at m.cities.now a) (city_at m.cities.now b) };
+
+    #[inline]
+    fn place(&self, c: u32) -> Point {
+        self.metric.place(self.cities[c as usize - 1])
+    }
+
+    #[inline]
+    fn floor_x(&self, dx: u64) -> i64 {
+        self.metric.floor_x(dx)
+    }
+}
+
+impl<P: BothAxes> BothAxes for Sub<'_, P> {
+    ghost use Rattle.tk_distance.specs.Cities.{city_at};
+
+    ghost tall = { λ m a b. P.tall m.metric.now (city_at m.cities.now a) (city_at m.cities.now b) };
+
+    ghost floor_bounds_y = { λ m a b. P.floor_bounds_y m.metric.now (city_at m.cities.now a) (city_at m.cities.now b) };
 }

@@ -8,5 +8,5 @@ pub use tk_distance::{
 };
 pub use tk_near::{
     CityHint, Near, Unvisited, near_among, near_lists, near_lists_agree, near_scan, near_sweep,
-    near_tree,
+    near_tree, near_tree_among,
 };

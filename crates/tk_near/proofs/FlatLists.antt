@@ -46,7 +46,7 @@ written_more xs from i kept d l m =
     ∙ ap (λ w. w ++ drop (from + (i + 1)) xs) (append_assoc (take from xs) (cities_kept (take i kept)) (v ∷ []))
     ∙ ap (λ w. take from xs ++ w ++ drop (from + (i + 1)) xs) (sym cities)
 
-within_front : (k s : ℕ) (front rest : List ℕ) → s + k ≤ length front →
+pub within_front : (k s : ℕ) (front rest : List ℕ) → s + k ≤ length front →
     take k (drop s (front ++ rest)) ≡ take k (drop s front)
 within_front k s front rest l =
     ap (take k) (drop-append-le s front rest (omega arith))

@@ -5,3 +5,4 @@ pub mod KeptCandidates
 pub mod DeterminedLists
 pub mod CandidateInserted
 pub mod FlatLists
+pub mod ShorterLists

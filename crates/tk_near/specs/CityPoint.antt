@@ -1,5 +1,5 @@
 -- Cities with their coordinates, and rows of them.
-use Rattle.std.specs.Prelude.{◌≡◌, ◌≢◌, ℕ, ◌-ℤ◌, ◌<◌, List, length, slice_index_or, All}
+use Rattle.std.specs.Prelude.{◌≡◌, ◌≢◌, ℕ, ◌+◌, ◌-ℤ◌, ◌<◌, List, length, slice_index_or, All}
 use Rattle.std.specs.Int.RustNames.{unsigned_abs}
 use Rattle.tk_problem.specs.declared.point.Point.{Point}
 use Rattle.tk_problem.specs.Places.{origin}
@@ -25,6 +25,11 @@ y_gap here there = unsigned_abs (here.place.y -ℤ there.place.y)
 -- a city with its coordinates
 abbrev pub IsPlaced : ℕ → (ℕ → Point) → CityPoint → Type 0
 IsPlaced n place_of p = IsCity n p.city × (p.place ≡ place_of p.city)
+
+-- the cities 1 to n with their coordinates, in the order of their numbers
+pub record IsNumberedRow (n : ℕ) (place_of : ℕ → Point) (row : List CityPoint) : Type 0 where
+  pub count : length row ≡ n
+  pub each : (j : ℕ) (d : CityPoint) → j < n → slice_index_or row j d ≡ as_placed place_of (j + 1)
 
 -- each city once, with its coordinates
 pub record IsRow (n : ℕ) (place_of : ℕ → Point) (row : List CityPoint) : Type 0 where

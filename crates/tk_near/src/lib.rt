@@ -13,6 +13,6 @@ pub use list_length::ListLength;
 pub use near::{Near, near_among, near_lists_agree, near_scan};
 pub use plane::city_point::CityPoint;
 pub use plane::sweep::{near_sweep, order_by_x};
-pub use plane::tree::near_tree;
+pub use plane::tree::{near_tree, near_tree_among};
 pub use plane::unvisited::{CityHint, Unvisited};
 pub use table::near_lists;

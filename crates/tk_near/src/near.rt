@@ -1,8 +1,8 @@
 //! Near lists: for each city, its nearest other cities, among all cities or a part of them, with ties broken by number.
-ghost use Rattle.std.specs.Prelude.{◌≡◌, ◌*◌, ◌≤◌, ◌<◌, IfOk, All, length, ⊤};
+ghost use Rattle.std.specs.Prelude.{◌≡◌, ℕ, ◌*◌, ◌≤◌, ◌<◌, IfOk, All, length, take, ⊤};
 ghost use Rattle.tk_problem.specs.declared.limits.TheConstants.{CANDIDATE_LIMIT, CITY_LIMIT};
 ghost use Rattle.tk_distance.specs.Cities.{IsCity};
-ghost use Rattle.tk_near.specs.Near.{IsNear, IsOther, AreNearLists, AreNearListsAmong, near_of};
+ghost use Rattle.tk_near.specs.Near.{IsNear, IsOther, AreNearest, AreNearLists, AreNearListsAmong, near_of};
 ghost use Rattle.tk_near.specs.Keeping.{AreFilled, AreFilledAmong, cities_kept};
 
 use crate::candidates::{Candidate, EMPTY, keep, measure, write_cities};
@@ -39,7 +39,7 @@ impl Near {
     }
 
     /// The near lists among the cities 1 to `among`, from the filled lists of all cities.
-    fn from_filled_among<M: Metric>(m: &M, among: u32, k: u32, entries: Vec<u32>) -> Near
+    pub fn from_filled_among<M: Metric>(m: &M, among: u32, k: u32, entries: Vec<u32>) -> Near
         requires part { among ≤ M.size_of m.now }
         requires limit { k ≤ CANDIDATE_LIMIT }
         requires filled { AreFilledAmong (M.distance m.now) (M.size_of m.now) among k (λ _. ⊤) entries.items }
@@ -87,6 +87,29 @@ impl Near {
         let width = self.width as usize;
         let from = (c as usize - 1) * width;
         &self.entries[from..from + width]
+    }
+
+    /// The near lists with the first `width` entries of each list.
+    ///
+    /// # Errors
+    /// `AllocError` if memory runs out.
+    pub fn shortened(&self, alloc: Global, width: u32) -> Result<Near, AllocError>
+        requires { width ≤ self.now.width }
+        ensures size { IfOk result (λ near. near.size ≡ self.now.size) }
+        ensures width { IfOk result (λ near. near.width ≡ width) }
+        ensures lists { IfOk result (λ near. (c : ℕ) → IsCity self.now.size c
+            → near_of near c ≡ take width (near_of self.now c)) }
+        ensures nearest { IfOk result (λ near. (dist : ℕ → ℕ → ℕ) → AreNearest dist self.now → AreNearest dist near) }
+    {
+        let mut entries = Vec::with_capacity(alloc, self.size as usize * width as usize)?;
+        for c in 1..self.size + 1 {
+            entries.extend_from_slice(&self.of(c)[..width as usize])?;
+        }
+        Ok(Near {
+            size: self.size,
+            width,
+            entries,
+        })
     }
 }
 

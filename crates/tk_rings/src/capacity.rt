@@ -1,5 +1,5 @@
 //! The capacity of the vehicles, as a rule of the moves on a ring.
-ghost use Rattle.std.specs.Prelude.{◌≡◌, ◌+◌, ◌≤◌, ◌<◌, ◌^◌, ◌*◌, true, length, nat_le};
+ghost use Rattle.std.specs.Prelude.{◌≡◌, ◌+◌, ◌-◌, ◌≤◌, ◌<◌, ◌^◌, ◌*◌, true, length, nat_le, slice_index};
 ghost use Rattle.tk_distance.specs.Cities.{IsCity};
 ghost use Rattle.tk_tour.specs.Tour.{next_city};
 ghost use Rattle.tk_descent.specs.Machine.{IsOfferOn};
@@ -26,14 +26,22 @@ pub struct Capacity<'a> {
     pub capacity: u64,
 }
 
-/// The next element in a direction.
+/// The next position in a direction, on a ring. The positions are counted from 1.
 #[inline]
-fn step<S: TourStore>(tour: &S, c: u32, forward: bool) -> u32
-    requires { IsCity (length (S.cities tour.now)) c }
-    ensures value { result ≡ step_on forward (S.cities tour.now) c }
-    ensures city { IsCity (length (S.cities tour.now)) result }
+fn step<S: TourStore>(tour: &S, k: u32, forward: bool) -> u32
+    requires { IsCity (length (S.cities tour.now)) k }
+    ensures value { slice_index (S.cities tour.now) (result - 1)
+        ≡ step_on forward (S.cities tour.now) (slice_index (S.cities tour.now) (k - 1)) }
+    ensures position { IsCity (length (S.cities tour.now)) result }
 {
-    if forward { tour.next(c) } else { tour.prev(c) }
+    let n = tour.size();
+    if forward {
+        if k == n { 1 } else { k + 1 }
+    } else if k == 1 {
+        n
+    } else {
+        k - 1
+    }
 }
 
 impl<'a> Capacity<'a> {
@@ -64,9 +72,10 @@ impl<'a> Capacity<'a> {
         ensures limit { result.0 ≤ 2 ^ 32 * 100000 }
     {
         let mut load = 0u64;
-        let mut c = walk.from;
+        let mut position = tour.position(walk.from);
         let n = tour.size();
         for k in 0..n {
+            let c = tour.at(position);
             if self.is_copy(c) {
                 return (load, true);
             }
@@ -77,7 +86,7 @@ impl<'a> Capacity<'a> {
             if c == walk.to {
                 return (load, false);
             }
-            c = step(tour, c, walk.forward);
+            position = step(tour, position, walk.forward);
         }
         (load, false)
     }

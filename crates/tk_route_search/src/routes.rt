@@ -1,5 +1,5 @@
 //! The runs of a search for routes.
-ghost use Rattle.std.specs.Prelude.{◌≡◌, ◌≤◌, IfOk, length};
+ghost use Rattle.std.specs.Prelude.{◌≡◌, ◌≤◌, ◌<◌, IfOk, length};
 ghost use Rattle.tk_problem.specs.PlacesOf.{places_of};
 ghost use Rattle.tk_problem.specs.declared.points.Places.TheVariants.{Whole};
 ghost use Rattle.tk_problem.specs.declared.weights.PlaneKind.TheVariants.{Euc2d};
@@ -21,8 +21,8 @@ use crate::outcome::{Outcome, RouteRun};
 use crate::start::filled;
 use crate::watch::{RouteWatch, is_made};
 use std::alloc::{AllocError, Global};
-use tk_distance::{Euclid, Metric, Sub, Table};
-use tk_near::{Near, near_among};
+use tk_distance::{BothAxes, Euclid, Metric, Sub, Table};
+use tk_near::{Near, near_among, near_tree_among};
 use tk_ring_search::RingTerms;
 use tk_rings::{Capacity, ring_demands, ring_nodes, ring_of, routes_of};
 use tk_routes::Cvrp;
@@ -105,6 +105,25 @@ fn run_each<M: Metric, W: RouteWatch>(
     Ok(outcome)
 }
 
+/// The outcome for a ring of one customer, for which no runs are made and the observer is shown nothing.
+fn without_runs<M: Metric, W: RouteWatch>(
+    alloc: Global,
+    cvrp: &Cvrp<'_>,
+    metric: &M,
+    ring: &[u32],
+    options: &SearchOptions<'_>,
+    watch: &W,
+) -> Result<Outcome, AllocError>
+    requires size { M.size_of metric.now ≡ length ring.now }
+    requires distance { M.distance metric.now
+        ≡ ring_distance (instance_of cvrp.now) (copies_in (instance_of cvrp.now) ring.now) }
+    requires ring { IsRing (instance_of cvrp.now) (length ring.now) ring.now }
+    requires few { customer_count (instance_of cvrp.now) < 2 }
+    ensures { IfOk result (AreMade (task_of cvrp.now options.now) ring.now (WereShown W.shows watch.now watch.now)) }
+{
+    Outcome::new(alloc, ring, length(metric, ring))
+}
+
 /// Makes all runs from a ring, over the distances between its elements. With one customer there are none.
 fn run_ring<M: Metric, W: RouteWatch>(
     alloc: Global,
@@ -122,10 +141,34 @@ fn run_ring<M: Metric, W: RouteWatch>(
 {
     let customers = cvrp.customers();
     if customers < 2 {
-        return Outcome::new(alloc, ring, length(metric, ring));
+        return without_runs(alloc, cvrp, metric, ring, options, watch);
     }
     let candidates = options.candidates.min(customers - 1);
     let near = near_among(alloc, metric, customers, candidates)?;
+    run_each(alloc, cvrp, metric, &near, ring, options, watch)
+}
+
+/// Like `run_ring`, for elements in the plane, whose near lists a k-d tree finds.
+fn run_ring_in_plane<P: BothAxes, W: RouteWatch>(
+    alloc: Global,
+    cvrp: &Cvrp<'_>,
+    metric: &P,
+    ring: &[u32],
+    options: &SearchOptions<'_>,
+    watch: &mut W,
+) -> Result<Outcome, AllocError>
+    requires size { P.size_of metric.now ≡ length ring.now }
+    requires distance { P.distance metric.now
+        ≡ ring_distance (instance_of cvrp.now) (copies_in (instance_of cvrp.now) ring.now) }
+    requires ring { IsRing (instance_of cvrp.now) (length ring.now) ring.now }
+    ensures { IfOk result (AreMade (task_of cvrp.now options.now) ring.now (WereShown W.shows watch.old watch.new)) }
+{
+    let customers = cvrp.customers();
+    if customers < 2 {
+        return without_runs(alloc, cvrp, metric, ring, options, watch);
+    }
+    let candidates = options.candidates.min(customers - 1);
+    let near = near_tree_among(alloc, metric, customers, candidates)?;
     run_each(alloc, cvrp, metric, &near, ring, options, watch)
 }
 
@@ -147,8 +190,26 @@ fn run_over<M: Metric, W: RouteWatch>(
     run_ring(alloc, cvrp, &Sub::new(metric, &nodes), ring, options, watch)
 }
 
-/// Like `run_over`, for points in whole numbers of a unit, which are copied in the order of the ring's elements.
-fn run_over_plane<W: RouteWatch>(
+/// Like `run_over`, for distances in the plane.
+fn run_over_plane<P: BothAxes, W: RouteWatch>(
+    alloc: Global,
+    cvrp: &Cvrp<'_>,
+    metric: &P,
+    ring: &[u32],
+    options: &SearchOptions<'_>,
+    watch: &mut W,
+) -> Result<Outcome, AllocError>
+    requires size { P.size_of metric.now ≡ (instance_of cvrp.now).size }
+    requires distance { P.distance metric.now ≡ (instance_of cvrp.now).distance }
+    requires ring { IsRing (instance_of cvrp.now) (length ring.now) ring.now }
+    ensures { IfOk result (AreMade (task_of cvrp.now options.now) ring.now (WereShown W.shows watch.old watch.new)) }
+{
+    let nodes = ring_nodes(alloc, cvrp, ring.len() as u32 - cvrp.customers())?;
+    run_ring_in_plane(alloc, cvrp, &Sub::new(metric, &nodes), ring, options, watch)
+}
+
+/// Like `run_over_plane`, for points in whole numbers of a unit, which are copied in the order of the ring's elements.
+fn run_over_points<W: RouteWatch>(
     alloc: Global,
     cvrp: &Cvrp<'_>,
     plane: Euclid<'_>,
@@ -164,14 +225,8 @@ fn run_over_plane<W: RouteWatch>(
 {
     let nodes = ring_nodes(alloc, cvrp, ring.len() as u32 - cvrp.customers())?;
     let points = copied_points(alloc, &plane, &nodes)?;
-    run_ring(
-        alloc,
-        cvrp,
-        &Copied::new(plane, &nodes, &points),
-        ring,
-        options,
-        watch,
-    )
+    let metric = Copied::new(plane, &nodes, &points);
+    run_ring_in_plane(alloc, cvrp, &metric, ring, options, watch)
 }
 
 /// Makes all runs.
@@ -187,8 +242,8 @@ fn run_all<W: RouteWatch>(
 {
     match cvrp.table() {
         Table::Planes(planes) => match planes.euclid() {
-            Some(plane) => run_over_plane(alloc, cvrp, plane, ring, options, watch),
-            None => run_over(alloc, cvrp, &planes, ring, options, watch),
+            Some(plane) => run_over_points(alloc, cvrp, plane, ring, options, watch),
+            None => run_over_plane(alloc, cvrp, &planes, ring, options, watch),
         },
         Table::Triangle(triangle) => run_over(alloc, cvrp, &triangle, ring, options, watch),
     }

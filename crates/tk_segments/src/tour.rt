@@ -13,7 +13,8 @@ use crate::segments::Segments;
 use std::alloc::Global;
 use tk_problem::CITY_LIMIT;
 use tk_tour::{
-    Flip, Neighbourhood, TourFault, TourStore, UndoStore, Verdict, place_cities, shorter_side,
+    Flip, Neighbourhood, Positions, TourFault, TourStore, UndoStore, Verdict, place_cities,
+    shorter_side,
 };
 
 /// Maximum number of segments.
@@ -93,6 +94,10 @@ impl TourStore for SegmentTour {
 
     fn at(&self, k: u32) -> u32 {
         self.seen.at(k - 1)
+    }
+
+    fn position(&self, c: u32) -> u32 {
+        self.seen.place_of(c) + 1
     }
 
     fn swaps(&self) -> u64 {

@@ -77,6 +77,12 @@ pub trait TourStore {
         requires { IsCity (length (cities self.now)) k }
         ensures { result ≡ slice_index (cities self.now) (k - 1) };
 
+    /// The position of city c, counted from 1.
+    fn position(&self, c: u32) -> u32
+        requires { IsCity (length (cities self.now)) c }
+        ensures within { IsCity (length (cities self.now)) result }
+        ensures city { slice_index (cities self.now) (result - 1) ≡ c };
+
     /// The number of swaps counted for flips: half of the positions that each one reversed, rounded down.
     fn swaps(&self) -> u64
         ensures { result ≡ swap_count self.now };

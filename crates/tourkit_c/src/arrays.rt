@@ -1,88 +1,35 @@
-//! Arrays of numbers instead of texts: the distances and the near lists of a problem, and the check of a list as a
-//! tour.
-ghost use Rattle.std.specs.Prelude.{◌≡◌, ◌≢◌, ◌≤◌, ◌*◌, ◌-◌, min, length, IfOk, IfErr};
+//! Distances, near lists, tours and checks as arrays of numbers.
+ghost use Rattle.std.specs.Prelude.{◌≡◌, ◌≢◌, ◌≤◌, ◌*◌, ◌-◌, min, length};
+ghost use Rattle.tk_for_c.specs.Answers.{IsFaulty};
+ghost use Rattle.tk_for_c.specs.Arrays.{AreDistancesOf, AreNearIn, AreNearOf, HasVerdict, IsCountOf, IsTourCheckOf};
+ghost use Rattle.tk_for_c.specs.Ends.{IsArrayEnd};
+ghost use Rattle.tk_for_c.specs.Outcomes.{with_status};
+ghost use Rattle.tk_for_c.specs.Points.{ArePointsNear, CanBePlaces, IsPointsCheck};
+ghost use Rattle.tk_for_c.specs.Tours.{IsNearestRefused, IsNearestTourOf};
+ghost use Rattle.tk_for_c.specs.Weights.{AreWeights};
+ghost use Rattle.tk_metric.specs.Weights.{weight_between};
 ghost use Rattle.tk_near.specs.ListLengths.{IsListLength};
 ghost use Rattle.tk_text.specs.Problem.{problem_texts};
-ghost use Rattle.tk_text.specs.ProblemOf.{problem_is, weights_are};
-ghost use Rattle.tk_metric.specs.Tables.{table_distance, table_size};
-ghost use Rattle.tk_engines.specs.ReadProblems.{read_distance};
-ghost use Rattle.tourkit_c.specs.Answers.{IsFaulty};
-ghost use Rattle.tourkit_c.specs.Arrays.{AreDistances, AreDistancesOf, AreNearIn, AreNearOf, HasVerdict, IsArrayStatus};
-ghost use Rattle.tourkit_c.specs.Arrays.{IsCountOf, IsTourCheckOf};
-ghost use Rattle.tourkit_c.specs.Outcomes.{IsFailure, with_status};
-ghost use Rattle.tourkit_c.specs.Texts.{TextSays};
 
-use crate::answer::{Answer, NO_ROOM, REFUSED};
-use crate::tables::{fill_distances, near_in, verdict_in};
 use std::alloc::Global;
-use tk_metric::Table;
-use tk_near::ListLength;
-use tk_text::{FromRead, Problem, read_problem};
+use tk_for_c::Answer;
 
-/// The problem of a text, or the result of the call if the text is rejected or memory runs out.
-pub(crate) fn problem_of(alloc: Global, text: &[u8]) -> Result<Problem, Answer>
-    ensures ok { IfOk result (λ p. TextSays problem_texts text.now (problem_is p)) }
-    ensures failure { IfErr result (IsFailure 0) }
-    ensures refused { IfErr result (λ answer. answer.status ≡ 2 → IsFaulty problem_texts 1 text.now answer) }
+/// Writes the nearest-neighbour tour of a problem from a city.
+#[unsafe(no_mangle)]
+pub extern "C" fn tourkit_nearest_tour(
+    alloc: Global,
+    problem: &[u8],
+    start: u32,
+    out: &mut [u32],
+    answer: &mut Answer,
+)
+    ensures { IsArrayEnd (IsNearestTourOf start problem.now out.new) (IsCountOf (λ p. p.n) problem.now)
+        (IsNearestRefused start problem.now) out.old out.new answer.new }
 {
-    match read_problem(alloc, &mut FromRead::new(text)) {
-        Ok(problem) => Ok(problem),
-        Err(fault) => Err(Answer::of_text(1, &fault, 0)),
-    }
+    *answer = tk_for_c::tourkit_nearest_tour(alloc, problem, start, out);
 }
 
-/// The distances of a problem.
-pub(crate) fn table_of(problem: &Problem) -> Table<'_>
-    ensures size { table_size result ≡ problem.now.n }
-    ensures distances { table_distance result ≡ read_distance (weights_are problem.now.weights) }
-{
-    Table::of(problem)
-}
-
-/// Writes the distances of all pairs of cities of a problem, if `out` has exactly the right size.
-fn distances_of(problem: &Problem, out: &mut [i64]) -> Answer
-    ensures given { result.status ≡ 0
-        → AreDistances problem.now.n (read_distance (weights_are problem.now.weights)) out.new }
-    ensures room { result.status ≡ 4 → result ≡ with_status 4 (problem.now.n * problem.now.n) }
-    ensures status { IsArrayStatus (length out.old) result }
-    ensures kept { 2 ≤ result.status → out.new ≡ out.old }
-    ensures unrefused { result.status ≢ 2 }
-{
-    let needed = problem.n as usize * problem.n as usize;
-    if out.len() != needed {
-        return Answer::ended(NO_ROOM, needed);
-    }
-    fill_distances(&table_of(problem), out);
-    Answer::ended(0, needed)
-}
-
-/// Writes the near lists of a problem, if `out` has exactly the right size.
-fn near_of(alloc: Global, problem: &Problem, candidates: ListLength, out: &mut [u32]) -> Answer
-    ensures given { result.status ≡ 0
-        → AreNearIn problem.now.n (read_distance (weights_are problem.now.weights)) candidates.cities out.new }
-    ensures room { result.status ≡ 4
-        → result ≡ with_status 4 (problem.now.n * min candidates.cities (problem.now.n - 1)) }
-    ensures status { IsArrayStatus (length out.old) result }
-    ensures kept { 2 ≤ result.status → out.new ≡ out.old }
-    ensures unrefused { result.status ≢ 2 }
-{
-    near_in(alloc, &table_of(problem), candidates, out)
-}
-
-/// The result of checking a list as a tour of a problem's cities.
-fn verdict_of(alloc: Global, problem: &Problem, cities: &[u32]) -> Answer
-    ensures given { result.status ≤ 1
-        → HasVerdict problem.now.n (read_distance (weights_are problem.now.weights)) cities.now result }
-    ensures known { result.status ≤ 3 }
-    ensures unrefused { result.status ≢ 2 }
-    ensures unwritten { result.needed ≡ 0 }
-    ensures memory { result.status ≡ 3 → result ≡ with_status 3 0 }
-{
-    verdict_in(alloc, &table_of(problem), cities)
-}
-
-/// Writes the distances of all pairs of n cities, row by row, if `out` has exactly n² entries; otherwise the status is
-/// 4. In both cases, `needed` is n². Cities count from 1: the distance of a and b is at index (a - 1) n + (b - 1).
+/// Writes the distances of all pairs of cities of a problem.
 #[unsafe(no_mangle)]
 pub extern "C" fn tourkit_distances(
     alloc: Global,
@@ -90,21 +37,13 @@ pub extern "C" fn tourkit_distances(
     out: &mut [i64],
     answer: &mut Answer,
 )
-    ensures given { answer.new.status ≡ 0 → AreDistancesOf problem.now out.new }
-    ensures room { answer.new.status ≡ 4 → IsCountOf (λ p. p.n * p.n) problem.now answer.new }
-    ensures status { IsArrayStatus (length out.old) answer.new }
-    ensures kept { 2 ≤ answer.new.status → out.new ≡ out.old }
-    ensures problem { answer.new.status ≡ 2 → IsFaulty problem_texts 1 problem.now answer.new }
+    ensures { IsArrayEnd (AreDistancesOf problem.now out.new) (IsCountOf (λ p. p.n * p.n) problem.now)
+        (IsFaulty problem_texts 1 problem.now) out.old out.new answer.new }
 {
-    *answer = match problem_of(alloc, problem) {
-        Ok(problem) => distances_of(&problem, out),
-        Err(answer) => answer,
-    };
+    *answer = tk_for_c::tourkit_distances(alloc, problem, out);
 }
 
-/// Writes the near lists of n cities one after another, min(k, n - 1) cities each, if `out` has exactly as many
-/// entries; otherwise the status is 4. In both cases, `needed` is their number. k is 1 to 100; for any other k, the
-/// status is 2.
+/// Writes the near lists of a problem.
 #[unsafe(no_mangle)]
 pub extern "C" fn tourkit_near_cities(
     alloc: Global,
@@ -113,25 +52,14 @@ pub extern "C" fn tourkit_near_cities(
     out: &mut [u32],
     answer: &mut Answer,
 )
-    ensures given { answer.new.status ≡ 0 → AreNearOf k problem.now out.new }
-    ensures room { answer.new.status ≡ 4 → IsCountOf (λ p. p.n * min k (p.n - 1)) problem.now answer.new }
-    ensures status { IsArrayStatus (length out.old) answer.new }
-    ensures kept { 2 ≤ answer.new.status → out.new ≡ out.old }
-    ensures refused { answer.new.status ≡ 2 → IsListLength k → IsFaulty problem_texts 1 problem.now answer.new }
+    ensures end { IsArrayEnd (AreNearOf k problem.now out.new) (IsCountOf (λ p. p.n * min k (p.n - 1)) problem.now)
+        (λ a. IsListLength k → IsFaulty problem_texts 1 problem.now a) out.old out.new answer.new }
     ensures outside { (IsListLength k → ⊥) → answer.new ≡ with_status 2 0 }
 {
-    let Some(candidates) = ListLength::of(k) else {
-        *answer = Answer::ended(REFUSED, 0);
-        return;
-    };
-    *answer = match problem_of(alloc, problem) {
-        Ok(problem) => near_of(alloc, &problem, candidates, out),
-        Err(answer) => answer,
-    };
+    *answer = tk_for_c::tourkit_near_cities(alloc, problem, k, out);
 }
 
-/// Checks an array as a tour of the cities of a problem. The status is 0 with the length of the tour in `length`, or 1
-/// with the first fault in `kind` (20 wrong count, 21 out of range, 22 repeated city) and its position in `place`.
+/// Checks a list as a tour of a problem.
 #[unsafe(no_mangle)]
 pub extern "C" fn tourkit_check_cities(
     alloc: Global,
@@ -145,8 +73,84 @@ pub extern "C" fn tourkit_check_cities(
     ensures unwritten { answer.new.needed ≡ 0 }
     ensures memory { answer.new.status ≡ 3 → answer.new ≡ with_status 3 0 }
 {
-    *answer = match problem_of(alloc, problem) {
-        Ok(problem) => verdict_of(alloc, &problem, cities),
-        Err(answer) => answer,
-    };
+    *answer = tk_for_c::tourkit_check_cities(alloc, problem, cities);
+}
+
+/// Writes the near lists of cities with these coordinates.
+#[unsafe(no_mangle)]
+pub extern "C" fn tourkit_near_points(
+    alloc: Global,
+    kind: u32,
+    xs: &[i64],
+    ys: &[i64],
+    k: u32,
+    out: &mut [u32],
+    answer: &mut Answer,
+)
+    ensures end { IsArrayEnd (ArePointsNear kind xs.now ys.now k out.new)
+        (λ a. a ≡ with_status 4 (length xs.now * min k (length xs.now - 1))) (λ a. a ≡ with_status 2 0)
+        out.old out.new answer.new }
+    ensures justified { answer.new.status ≡ 2 → IsListLength k → kind ≤ 4 → CanBePlaces xs.now ys.now → ⊥ }
+    ensures candidates { answer.new.status ≢ 2 → IsListLength k }
+    ensures kinds { answer.new.status ≢ 2 → kind ≤ 4 }
+    ensures places { answer.new.status ≢ 2 → answer.new.status ≢ 3 → CanBePlaces xs.now ys.now }
+{
+    *answer = tk_for_c::tourkit_near_points(alloc, kind, xs, ys, k, out);
+}
+
+/// Checks a list as a tour of cities with these coordinates.
+#[unsafe(no_mangle)]
+pub extern "C" fn tourkit_check_points(
+    alloc: Global,
+    kind: u32,
+    xs: &[i64],
+    ys: &[i64],
+    cities: &[u32],
+    answer: &mut Answer,
+)
+    ensures given { answer.new.status ≤ 1 → IsPointsCheck kind xs.now ys.now cities.now answer.new }
+    ensures known { answer.new.status ≤ 3 }
+    ensures refused { 2 ≤ answer.new.status → answer.new ≡ with_status answer.new.status 0 }
+    ensures justified { answer.new.status ≡ 2 → kind ≤ 4 → CanBePlaces xs.now ys.now → ⊥ }
+    ensures kinds { answer.new.status ≢ 2 → kind ≤ 4 }
+    ensures places { answer.new.status ≢ 2 → answer.new.status ≢ 3 → CanBePlaces xs.now ys.now }
+{
+    *answer = tk_for_c::tourkit_check_points(alloc, kind, xs, ys, cities);
+}
+
+/// Writes the near lists of cities with these explicit weights.
+#[unsafe(no_mangle)]
+pub extern "C" fn tourkit_near_weights(
+    alloc: Global,
+    n: u32,
+    weights: &[u32],
+    k: u32,
+    out: &mut [u32],
+    answer: &mut Answer,
+)
+    ensures end { IsArrayEnd (AreNearIn n (weight_between weights.now) k out.new)
+        (λ a. a ≡ with_status 4 (n * min k (n - 1))) (λ a. a ≡ with_status 2 0) out.old out.new answer.new }
+    ensures justified { answer.new.status ≡ 2 → IsListLength k → AreWeights n weights.now → ⊥ }
+    ensures candidates { answer.new.status ≢ 2 → IsListLength k }
+    ensures weights { answer.new.status ≢ 2 → AreWeights n weights.now }
+{
+    *answer = tk_for_c::tourkit_near_weights(alloc, n, weights, k, out);
+}
+
+/// Checks a list as a tour of cities with these explicit weights.
+#[unsafe(no_mangle)]
+pub extern "C" fn tourkit_check_weights(
+    alloc: Global,
+    n: u32,
+    weights: &[u32],
+    cities: &[u32],
+    answer: &mut Answer,
+)
+    ensures given { answer.new.status ≤ 1 → HasVerdict n (weight_between weights.now) cities.now answer.new }
+    ensures known { answer.new.status ≤ 3 }
+    ensures refused { 2 ≤ answer.new.status → answer.new ≡ with_status answer.new.status 0 }
+    ensures justified { answer.new.status ≡ 2 → AreWeights n weights.now → ⊥ }
+    ensures weights { answer.new.status ≢ 2 → AreWeights n weights.now }
+{
+    *answer = tk_for_c::tourkit_check_weights(alloc, n, weights, cities);
 }

@@ -1,25 +1,12 @@
-//! tourkit for C: functions on texts and arrays in memory. They write the text that the program prints, or arrays of
-//! numbers.
+//! The library for C: a static library. Each function calls the function of the same name in the crate `tk_for_c`,
+//! where a comment says what it does, and promises the same.
 //!
-//! An exported function requires nothing of its caller beyond the types of its parameters: it checks what the engines
-//! require. It keeps nothing from one call to the next.
+//! An exported function requires nothing of its caller beyond the types of its parameters. It keeps nothing from one
+//! call to the next.
 #![tactic(auto)]
 
-mod answer;
 mod arrays;
-mod check;
 mod contents;
-mod explain;
-mod hand_out;
-mod info;
-mod near_and_matrix;
-mod plot;
-mod points;
-mod search;
 mod searches;
-mod solve;
-mod solve_routes;
-mod tables;
-mod tours;
+mod texts;
 mod version;
-mod weights;

@@ -1,30 +1,73 @@
-//! The answer to a call of a search.
-ghost use Rattle.std.specs.Prelude.{◌≤◌, IfErr, IfOk};
-ghost use Rattle.tourkit_c.specs.Searches.{IsStopped};
-ghost use Rattle.tourkit_c.specs.Texts.{AreWritten};
+//! Searches for texts.
+ghost use Rattle.std.specs.Prelude.{◌≡◌, ◌≢◌, ◌≤◌};
+ghost use Rattle.tk_for_c.specs.Ends.{IsTextEnd};
+ghost use Rattle.tk_for_c.specs.Outcomes.{with_status};
+ghost use Rattle.tk_for_c.specs.Searches.{HoldFiles, IsInRange};
+ghost use Rattle.tk_for_c.specs.Solved.{AreParamsRefused, IsOptionsRefused, IsSearchedOf, IsSolveRefused, IsSolvedOf};
+ghost use Rattle.tk_for_c.specs.SolvedRoutes.{AreSolvedOf, IsRoutesRefused, as_search};
 
-use crate::answer::{Answer, stopped};
-use crate::hand_out::hand_out;
 use std::alloc::Global;
-use tk_engines::Fault;
+use tk_for_c::{Answer, RouteOptions, SearchOptions};
 
-/// Writes the text of the tour or of the solution that was found to `file`, and the lines to `out`; or the message to
-/// `out`, if there was no search. `problem` is the number of the problem text.
-pub(crate) fn answer_of(
+/// Searches for a short tour or for short routes, as parameters specify.
+#[unsafe(no_mangle)]
+pub extern "C" fn tourkit_solve(
     alloc: Global,
-    problem: u32,
-    solved: Result<(Vec<u8>, Vec<u8>), Fault>,
+    parameters: &[u8],
+    problem: &[u8],
+    initial: &[u8],
     out: &mut [u8],
     file: &mut [u8],
-) -> Answer
-    requires { problem ≤ 2 }
-    ensures given { IfOk solved (λ r. AreWritten 0 r.1.items out.old out.new r.0.items file.old file.new result) }
-    ensures stopped { IfErr solved (λ f. IsStopped problem f out.old out.new file.old file.new result) }
+    answer: &mut Answer,
+)
+    ensures end { IsTextEnd
+        (HoldFiles (IsSolvedOf parameters.now problem.now initial.now) out.old out.new file.old file.new)
+        (λ a. (a.text ≡ 1 → AreParamsRefused parameters.now a)
+        × (a.text ≢ 1 → IsSolveRefused parameters.now problem.now initial.now a))
+        out.old out.new answer.new }
+    ensures kept { 2 ≤ answer.new.status → file.new ≡ file.old }
 {
-    match solved {
-        Ok((text, lines)) => {
-            Answer::ended_twice(0, hand_out(&lines, out), hand_out(&text, file))
-        }
-        Err(fault) => stopped(alloc, problem, &fault, out),
-    }
+    *answer = tk_for_c::tourkit_solve(alloc, parameters, problem, initial, out, file);
+}
+
+/// Searches for a short tour, or for routes that are improved each by itself, with options.
+#[unsafe(no_mangle)]
+pub extern "C" fn tourkit_search(
+    alloc: Global,
+    problem: &[u8],
+    initial: &[u8],
+    options: &SearchOptions,
+    out: &mut [u8],
+    file: &mut [u8],
+    answer: &mut Answer,
+)
+    ensures end { IsTextEnd
+        (HoldFiles (IsSearchedOf options.now problem.now initial.now) out.old out.new file.old file.new)
+        (λ a. IsInRange options.now → IsOptionsRefused options.now problem.now initial.now a)
+        out.old out.new answer.new }
+    ensures outside { (IsInRange options.now → ⊥) → answer.new ≡ with_status 2 0 }
+    ensures kept { 2 ≤ answer.new.status → file.new ≡ file.old }
+{
+    *answer = tk_for_c::tourkit_search(alloc, problem, initial, options, out, file);
+}
+
+/// Searches between the routes of a CVRP.
+#[unsafe(no_mangle)]
+pub extern "C" fn tourkit_solve_routes(
+    alloc: Global,
+    problem: &[u8],
+    initial: &[u8],
+    options: &RouteOptions,
+    out: &mut [u8],
+    file: &mut [u8],
+    answer: &mut Answer,
+)
+    ensures end { IsTextEnd
+        (HoldFiles (AreSolvedOf options.now problem.now initial.now) out.old out.new file.old file.new)
+        (λ a. IsInRange (as_search options.now) → IsRoutesRefused options.now problem.now initial.now a)
+        out.old out.new answer.new }
+    ensures outside { (IsInRange (as_search options.now) → ⊥) → answer.new ≡ with_status 2 0 }
+    ensures kept { 2 ≤ answer.new.status → file.new ≡ file.old }
+{
+    *answer = tk_for_c::tourkit_solve_routes(alloc, problem, initial, options, out, file);
 }

@@ -26,8 +26,9 @@ use Rattle.tk_near.specs.Tree.{IsFrom, IsInBox, IsBeyond, entries_of, parts_of, 
 use Rattle.tk_near.proofs.SortedInsertion.{take-insert_by, length-insert_by, Climbing-take}
 use Rattle.tk_near.proofs.SortedInsertion.{before_false, insert_by-full, insert_before, insert_after}
 use Rattle.tk_near.proofs.SortedInsertion.{Climbing-insert_by}
-use Rattle.tk_near.proofs.InPlane.RowCandidates.{gap_is, near_place, one_place, with_place}
+use Rattle.tk_near.proofs.InPlane.RowCandidates.{gap_is, one_place, with_place}
 use Rattle.tk_near.proofs.KeptCandidates.{KeepsFirst-none, KeepsFirst-same, KeepsFirst-count, kept_length, same_twice}
+use Rattle.tk_near.proofs.KeptCandidates.{IsNear-from_kept}
 
 -- ---- the order of two candidates
 
@@ -226,37 +227,40 @@ count_more p i ne = grind (arith, nat_tests)
 count_same : (p i : ℕ) → i ≡ p → cond (nat_lt p i) (i - 1) i ≡ cond (nat_lt p (suc i)) (suc i - 1) (suc i)
 count_same p i e = grind (arith, nat_tests)
 
-count_whole : (p n : ℕ) → p < n → cond (nat_lt p n) (n - 1) n ≡ n - 1
-count_whole p n l = grind (arith, nat_tests)
+count_whole : (p k n : ℕ) → k < n → k ≤ cond (nat_lt p n) (n - 1) n
+count_whole p k n l = grind (arith, nat_tests)
 
 module _ (dist : ℕ → ℕ → ℕ) (limit : (a b : ℕ) → dist a b ≤ DISTANCE_LIMIT) (n : ℕ) (place_of : ℕ → Point)
     (row : List CityPoint) (o : IsRow n place_of row) (few : n ≤ CITY_LIMIT) where
   abbrev Before : ℕ → ℕ → ℕ → Type 0
   Before p j q = (q < j) × (q ≢ p)
 
-  keeps_first : (p k j : ℕ) → p < length row → j ≤ length row →
-      KeepsFirst dist (placed_city row p) k (cond (nat_lt p j) (j - 1) j) (IsAt row (Before p j))
-      (with_cities dist (placed_city row p) (take j row) (replicate k empty_slot))
-  keeps_first p k zero lp lj =
-      KeepsFirst-count dist (placed_city row p) k _ _ _ _ (same_twice (nat_lt p 0) 0)
-      (KeepsFirst-none dist (placed_city row p) k (IsAt row (Before p 0))
+  -- of the places of the row, at most p holds city c, and p does if it is one of them
+  abbrev HasAlone : ℕ → ℕ → Type 0
+  HasAlone c p = (q : ℕ) → q < length row → (q ≡ p → placed_city row q ≡ c) × (placed_city row q ≡ c → q ≡ p)
+
+  keeps_first : (c p k j : ℕ) → HasAlone c p → j ≤ length row →
+      KeepsFirst dist c k (cond (nat_lt p j) (j - 1) j) (IsAt row (Before p j))
+      (with_cities dist c (take j row) (replicate k empty_slot))
+  keeps_first c p k zero alone lj =
+      KeepsFirst-count dist c k _ _ _ _ (same_twice (nat_lt p 0) 0)
+      (KeepsFirst-none dist c k (IsAt row (Before p 0))
       (λ b s. let w = s.2 in let high : s.0 < 0 = w.0 in omega arith))
-  keeps_first p k (suc i) lp lj =
-      let c : ℕ = placed_city row p in
+  keeps_first c p k (suc i) alone lj =
       let kept : List Candidate = with_cities dist c (take i row) (replicate k empty_slot) in
-      let h = keeps_first p k i lp (omega arith) in
+      let h = keeps_first c p k i alone (omega arith) in
       let li : i < length row = omega arith in
       let more = with_cities-more dist c row i nowhere (replicate k empty_slot) li in
       subst (KeepsFirst dist c k _ (IsAt row (Before p (suc i)))) (sym more)
       (⊎_elim
       (λ e.
       subst (KeepsFirst dist c k _ (IsAt row (Before p (suc i))))
-      (sym (with_city-same dist c (get_or row i nowhere) kept (ap (placed_city row) e)))
+      (sym (with_city-same dist c (get_or row i nowhere) kept ((alone i li).0 e)))
       (KeepsFirst-count dist c k _ _ _ kept (count_same p i e)
       (KeepsFirst-same dist c k _ (IsAt row (Before p i)) (IsAt row (Before p (suc i))) kept h
       (λ a s. (s.0, s.1, omega (arith, s.2), s.3)) (λ a s. (s.0, s.1, omega (arith, s.2), s.3)))))
       (λ ne.
-      let other : placed_city row i ≢ c = λ e. ne (one_place o i p li lp e) in
+      let other : placed_city row i ≢ c = λ e. ne ((alone i li).1 e) in
       let size = kept_length h in
       let there : with_city dist c (get_or row i nowhere) kept ≡ take k
       (insert_by rank (candidate dist c (placed_city row i)) kept) =
@@ -267,26 +271,41 @@ module _ (dist : ℕ → ℕ → ℕ) (limit : (a b : ℕ) → dist a b ≤ DIST
       (omega arith) (omega arith) (omega arith)))
       (cases_eq i p))
 
-  near_at : (p k : ℕ) → p < length row → k < n →
-      IsNear dist n k (placed_city row p)
-      (cities_kept (with_cities dist (placed_city row p) row (replicate k empty_slot)))
-  near_at p k lp kn =
-      let m : ℕ = cond (nat_lt p (length row)) (length row - 1) (length row) in
-      let count = count_whole p (length row) lp in
-      let all = take_all (length row) row (omega arith) in
-      near_place o dist p k m (Before p (length row)) _ few lp
-      (subst (λ v. KeepsFirst dist (placed_city row p) k m (IsAt row (Before p (length row)))
-      (with_cities dist (placed_city row p) v (replicate k empty_slot))) all
-      (keeps_first p k (length row) lp (omega arith)))
-      (omega (arith, o.count)) (λ q l ne. (l, ne)) (λ q w. w.1)
-
-  -- the list of a city
-  pub IsNear-from_row : (c k : ℕ) → IsCity n c → k < n →
+  near_at : (c p k : ℕ) → HasAlone c p → k < n →
       IsNear dist n k c (cities_kept (with_cities dist c row (replicate k empty_slot)))
-  IsNear-from_row c k city kn =
-      let w = o.whole c city in
-      subst (λ v. IsNear dist n k v (cities_kept (with_cities dist v row (replicate k empty_slot)))) w.2
-      (near_at w.0 k w.1 kn)
+  near_at c p k alone kn =
+      let all = take_all (length row) row (omega arith) in
+      let kept = subst (λ v. KeepsFirst dist c k (cond (nat_lt p (length row)) (length row - 1) (length row))
+      (IsAt row (Before p (length row))) (with_cities dist c v (replicate k empty_slot))) all
+      (keeps_first c p k (length row) alone (omega arith)) in
+      IsNear-from_kept dist n c k _ (IsAt row (Before p (length row))) _ kept (omega (arith, few))
+      (count_whole p k (length row) (omega (arith, o.count)))
+      (λ b city ne.
+      let w = o.whole b city in
+      (w.0, w.1, (w.1, λ e. ne (sym w.2 ∙ (alone w.0 w.1).0 e)), w.2))
+      (λ b s.
+      let w = s.2 in
+      (subst (IsCity n) s.3 (o.each s.0 nowhere s.1).0, λ same. w.1 ((alone s.0 s.1).1 (s.3 ∙ same))))
+
+  alone_at : (p : ℕ) → p < length row → HasAlone (placed_city row p) p
+  alone_at p lp q lq = (λ e. ap (placed_city row) e, λ e. one_place o q p lq lp e)
+
+  alone_nowhere : (c : ℕ) → (IsCity n c → ⊥) → HasAlone c (length row)
+  alone_nowhere c out q lq =
+      (λ e. absurd (omega (arith, e, lq)), λ e. absurd (out (subst (IsCity n) e (o.each q nowhere lq).0)))
+
+  -- the list of a city, which may be one of the row or not
+  pub IsNear-from_row : (c k : ℕ) → k < n →
+      IsNear dist n k c (cities_kept (with_cities dist c row (replicate k empty_slot)))
+  IsNear-from_row c k kn =
+      ⊎_elim (λ low. near_at c (length row) k (alone_nowhere c (λ city. omega (arith, city.0, low))) kn)
+      (λ some.
+      ⊎_elim (λ high. near_at c (length row) k (alone_nowhere c (λ city. omega (arith, city.1, high))) kn)
+      (λ within.
+      let w = o.whole c (omega (arith, some), omega (arith, within)) in
+      near_at c w.0 k (subst (λ v. HasAlone v w.0) w.2 (alone_at w.0 w.1)) kn)
+      (cases_lt n c))
+      (cases_lt c 1)
 
 -- ---- the greater of two gaps, cut off
 pub one_of_max : (gap x y a b : ℕ) → gap ≤ max x y → x ≤ a → y ≤ b → (gap ≤ a) ⊎ (gap ≤ b)

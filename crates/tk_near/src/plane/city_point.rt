@@ -1,6 +1,6 @@
 //! Cities with their coordinates.
 ghost use Rattle.std.specs.Prelude.{◌≡◌, IfOk};
-ghost use Rattle.tk_near.specs.CityPoint.{IsRow, x_gap};
+ghost use Rattle.tk_near.specs.CityPoint.{IsNumberedRow, x_gap};
 
 use std::alloc::{AllocError, Global};
 use tk_distance::Planar;
@@ -27,7 +27,7 @@ impl CityPoint {
 /// # Errors
 /// `AllocError` if memory runs out.
 pub fn row_of<P: Planar>(alloc: Global, m: &P) -> Result<Vec<CityPoint>, AllocError>
-    ensures { IfOk result (λ v. IsRow (P.size_of m.now) (P.place_of m.now) v.items) }
+    ensures { IfOk result (λ v. IsNumberedRow (P.size_of m.now) (P.place_of m.now) v.items) }
 {
     let mut row = Vec::with_capacity(alloc, m.size() as usize)?;
     for c in 1..m.size() + 1 {

@@ -5,8 +5,8 @@ ghost use Rattle.std.specs.Int.RustNames.{unsigned_abs};
 ghost use Rattle.tk_problem.specs.declared.limits.TheConstants.{CANDIDATE_LIMIT};
 ghost use Rattle.tk_distance.specs.Distance.{reach};
 ghost use Rattle.tk_near.specs.declared.plane.city_point.CityPoint.{CityPoint};
-ghost use Rattle.tk_near.specs.Near.{IsNear, AreNearLists};
-ghost use Rattle.tk_near.specs.Keeping.{AreFilled, cities_kept, rank};
+ghost use Rattle.tk_near.specs.Near.{IsNear, AreNearLists, AreNearListsAmong};
+ghost use Rattle.tk_near.specs.Keeping.{AreFilledAmong, cities_kept, rank};
 ghost use Rattle.tk_near.specs.CityPoint.{IsPlaced, IsRow};
 ghost use Rattle.tk_near.specs.Tree.{entries_of, IsInBox, IsFramed, IsHalf, IsBeyond, IsFrom, with_city, with_cities};
 
@@ -222,17 +222,23 @@ fn build(alloc: Global, row: &mut [CityPoint]) -> Result<(Tree, Bounds), AllocEr
     split_into(alloc, lower, upper)
 }
 
-/// The cities of a metric in the order of a tree, and that tree.
+/// The tree of the cities 1 to `among`, and all cities of a metric: first those of the tree, in its order.
 ///
 /// # Errors
 /// `AllocError` if memory runs out.
-pub fn build_tree<P: Planar>(alloc: Global, m: &P) -> Result<(Vec<CityPoint>, Tree), AllocError>
+pub fn build_tree<P: Planar>(
+    alloc: Global,
+    m: &P,
+    among: u32,
+) -> Result<(Vec<CityPoint>, Tree), AllocError>
+    requires part { among ≤ P.size_of m.now }
     ensures row { IfOk result (λ r. IsRow (P.size_of m.now) (P.place_of m.now) r.0.items) }
-    ensures entries { IfOk result (λ r. entries_of r.1 ≡ r.0.items) }
+    ensures entries { IfOk result (λ r. IsRow among (P.place_of m.now) (entries_of r.1)) }
     ensures framed { IfOk result (λ r. IsFramed r.1) }
 {
     let mut row = row_of(alloc, m)?;
-    let (tree, _) = build(alloc, &mut row)?;
+    let (first, _) = row.split_at_mut(among as usize);
+    let (tree, _) = build(alloc, first)?;
     Ok((row, tree))
 }
 
@@ -387,21 +393,22 @@ pub fn search_half<P: BothAxes, K: Collector>(
     }
 }
 
-/// Finds the nearest other cities of the city `here`, as many as there is room for.
+/// Finds the nearest cities of a tree other than the city `here`, as many as there is room for.
 fn search_city<P: BothAxes>(m: &P, here: &CityPoint, tree: &Tree, many: &mut KNearest)
     requires here { IsPlaced (P.size_of m.now) (P.place_of m.now) here.now }
-    requires row { IsRow (P.size_of m.now) (P.place_of m.now) (entries_of tree.now) }
+    requires tree { IsRow (length (entries_of tree.now)) (P.place_of m.now) (entries_of tree.now) }
+    requires part { length (entries_of tree.now) ≤ P.size_of m.now }
     requires framed { IsFramed tree.now }
-    requires high { length many.old.kept.items < P.size_of m.now }
+    requires high { length many.old.kept.items < length (entries_of tree.now) }
     ensures size { length many.new.kept.items ≡ length many.old.kept.items }
-    ensures near { IsNear (P.distance m.now) (P.size_of m.now) (length many.old.kept.items) here.now.city
+    ensures near { IsNear (P.distance m.now) (length (entries_of tree.now)) (length many.old.kept.items) here.now.city
         (cities_kept many.new.kept.items) }
 {
     many.clear();
     search(m, here, tree, START, many);
 }
 
-/// Fills the list of each city, in the order of the tree.
+/// Fills the list of each city of the row with its nearest cities of the tree.
 fn fill_from_tree<P: BothAxes>(
     m: &P,
     row: &[CityPoint],
@@ -410,11 +417,13 @@ fn fill_from_tree<P: BothAxes>(
     entries: &mut [u32],
 )
     requires row { IsRow (P.size_of m.now) (P.place_of m.now) row.now }
-    requires tree { entries_of tree.now ≡ row.now }
+    requires tree { IsRow (length (entries_of tree.now)) (P.place_of m.now) (entries_of tree.now) }
+    requires part { length (entries_of tree.now) ≤ P.size_of m.now }
     requires framed { IsFramed tree.now }
-    requires high { length many.old.kept.items < P.size_of m.now }
+    requires high { length many.old.kept.items < length (entries_of tree.now) }
     requires room { length entries.old ≡ P.size_of m.now * length many.old.kept.items }
-    ensures { AreFilled (P.distance m.now) (P.size_of m.now) (length many.old.kept.items) (λ _. ⊤) entries.new }
+    ensures { AreFilledAmong (P.distance m.now) (P.size_of m.now) (length (entries_of tree.now))
+        (length many.old.kept.items) (λ _. ⊤) entries.new }
 {
     for here in row {
         search_city(m, here, tree, many);
@@ -431,20 +440,43 @@ fn lists_by_tree<P: BothAxes>(
     m: &P,
     row: &[CityPoint],
     tree: &Tree,
+    among: u32,
     k: u32,
 ) -> Result<Near, AllocError>
     requires row { IsRow (P.size_of m.now) (P.place_of m.now) row.now }
-    requires tree { entries_of tree.now ≡ row.now }
+    requires tree { IsRow among (P.place_of m.now) (entries_of tree.now) }
+    requires part { among ≤ P.size_of m.now }
     requires framed { IsFramed tree.now }
     requires low { 1 ≤ k }
     requires limit { k ≤ CANDIDATE_LIMIT }
-    requires high { k < P.size_of m.now }
-    ensures { IfOk result (AreNearLists (P.distance m.now) (P.size_of m.now) k) }
+    requires high { k < among }
+    ensures { IfOk result (AreNearListsAmong (P.distance m.now) (P.size_of m.now) among k) }
 {
     let mut many = KNearest::new(alloc, k as usize)?;
     let mut entries = room_for(alloc, m, k)?;
     fill_from_tree(m, row, tree, &mut many, &mut entries);
-    Ok(Near::from_filled(m, k, entries))
+    Ok(Near::from_filled_among(m, among, k, entries))
+}
+
+/// The near lists among the cities 1 to `among`, with k cities each, by a search of a k-d tree of these cities for each
+/// city of the metric.
+///
+/// # Errors
+/// `AllocError` if memory runs out.
+pub fn near_tree_among<P: BothAxes>(
+    alloc: Global,
+    m: &P,
+    among: u32,
+    k: u32,
+) -> Result<Near, AllocError>
+    requires part { among ≤ P.size_of m.now }
+    requires low { 1 ≤ k }
+    requires limit { k ≤ CANDIDATE_LIMIT }
+    requires high { k < among }
+    ensures { IfOk result (AreNearListsAmong (P.distance m.now) (P.size_of m.now) among k) }
+{
+    let (row, tree) = build_tree(alloc, m, among)?;
+    lists_by_tree(alloc, m, &row, &tree, among, k)
 }
 
 /// The near lists, by a search of a k-d tree for each city.
@@ -457,6 +489,5 @@ pub fn near_tree<P: BothAxes>(alloc: Global, m: &P, k: u32) -> Result<Near, Allo
     requires high { k < P.size_of m.now }
     ensures { IfOk result (AreNearLists (P.distance m.now) (P.size_of m.now) k) }
 {
-    let (row, tree) = build_tree(alloc, m)?;
-    lists_by_tree(alloc, m, &row, &tree, k)
+    near_tree_among(alloc, m, m.size(), k)
 }

@@ -58,7 +58,7 @@ impl Unvisited {
     pub fn all<P: Planar>(alloc: Global, m: &P) -> Result<Unvisited, AllocError>
         ensures { IfOk result (λ left. IsRow (P.size_of m.now) (P.place_of m.now) left) }
     {
-        let (_, tree) = build_tree(alloc, m)?;
+        let (_, tree) = build_tree(alloc, m, m.size())?;
         Ok(Unvisited { tree })
     }
 

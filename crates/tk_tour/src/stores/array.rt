@@ -88,6 +88,10 @@ impl TourStore for ArrayTour {
         self.order[k as usize - 1]
     }
 
+    fn position(&self, c: u32) -> u32 {
+        self.place_of(c) + 1
+    }
+
     fn swaps(&self) -> u64 {
         self.swaps
     }

@@ -78,6 +78,10 @@ impl<S: UndoStore> TourStore for JournalTour<S> {
         self.tour.at(k)
     }
 
+    fn position(&self, c: u32) -> u32 {
+        self.tour.position(c)
+    }
+
     fn swaps(&self) -> u64 {
         self.tour.swaps()
     }

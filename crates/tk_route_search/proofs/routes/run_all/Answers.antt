@@ -6,8 +6,8 @@ use Rattle.tk_problem.specs.declared.weights.PlaneKind.TheVariants.{Euc2d}
 use Rattle.tk_distance.specs.PlaneOf.{city_distance}
 use Rattle.tk_route_search.proofs.routes.run_all.Goals as goal
 
-pub run_over_plane-requires-clause-distance : goal.run_over_plane-requires-clause-distance
-run_over_plane-requires-clause-distance g c =
+pub run_over_points-requires-clause-distance : goal.run_over_points-requires-clause-distance
+run_over_points-requires-clause-distance g c =
     let planes = c.in-Planes.planes in
     let same = c.in-Some.ensures.some in
     sym (ap (λ (kind : PlaneKind). city_distance kind (places_of planes.places)) same.0

@@ -13,3 +13,10 @@ returns-in-None-clause-none g c =
     (g.met.G.Gains.symmetric c.args.gains.now, g.met.G.Gains.distance_limit c.args.gains.now)
     (round_of _ (g.met.S.TourStore.is_tour c.args.tour.now)).distinct tt c.requires.most.1
     (sym c.in-None.ensures.searched.found)
+
+pub returns-in-Some-clause-looked : goal.returns-in-Some-clause-looked
+returns-in-Some-clause-looked g c =
+    record { first = c.in-Some.ensures.searched.found; tests = c.in-Some.ensures.searched.tests }
+
+pub returns-in-Some-clause-none : goal.returns-in-Some-clause-none
+returns-in-Some-clause-none g c = λ e. cc

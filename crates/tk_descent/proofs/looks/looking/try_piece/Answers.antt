@@ -1,8 +1,11 @@
+use Rattle.std.proofs.Common.{◌∙◌, w64, rules}
+use Rattle.std.proofs.lemmas.Int.{to_z-of_z}
 use Rattle.tk_descent.proofs.OfferLists.Searching.{Searched-on, Searched-stop}
 use Rattle.tk_descent.specs.Ruled.{IsOnTour}
 use Rattle.tk_descent.specs.Offers.{or_offer}
 use Rattle.tk_descent.proofs.OfferLists.OnCycle.{each-first, each-second}
 use Rattle.tk_descent.proofs.looks.looking.try_piece.Goals as goal
+use mir.Val.{SFits}
 
 pub returns-in-Some : goal.returns-in-Some
 returns-in-Some g c = Searched-stop (g.M.Metric.distance c.args.metric.now) _ _ _ _ _ c.in-Some.ensures
@@ -24,3 +27,8 @@ try_or-requires-2-clause-on_tour g c =
     let s = c.args.piece.now.segment in
     each-second (IsOnTour (g.S.TourStore.cities c.args.tour.now)) (or_offer c.args.x y.city s y.after)
     (or_offer c.args.x y.city s y.before) c.requires.on_tour
+
+pub try_or-requires-2-clause-margin : goal.try_or-requires-2-clause-margin
+try_or-requires-2-clause-margin g c =
+    let fits : SFits w64 c.margin_of-margin-2.result = search rules in
+    to_z-of_z w64 c.margin_of-margin-2.result fits ∙ c.margin_of-margin-2.ensures

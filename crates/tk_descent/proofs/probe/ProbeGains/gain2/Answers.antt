@@ -4,3 +4,6 @@ use Rattle.tk_descent.proofs.probe.ProbeGains.gain2.Goals as goal
 
 pub overflow_sub-result : goal.overflow_sub-result
 overflow_sub-result g c = omega (arith, ints, g.met.M.Metric.distance_limit c.args.self.now.metric.now)
+
+pub returns-clause-count : goal.returns-clause-count
+returns-clause-count g c = c.saturating_add-self.ensures

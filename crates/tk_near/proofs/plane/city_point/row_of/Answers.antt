@@ -1,9 +1,8 @@
 use Rattle.std.proofs.Common.{arith, ◌≡◌, ◌-◌}
-use Rattle.tk_near.proofs.InPlane.EachCityOnce.{IsRow-by_number}
 use Rattle.tk_near.proofs.plane.city_point.row_of.Goals as goal
 
 pub returns : goal.returns
 returns g c =
     let end : c.loop-c.c - 1 ≡ g.P.Metric.size_of c.args.m.now = omega arith in
     let h = rw end at c.loop-c.invariant in
-    IsRow-by_number (g.P.Metric.size_of c.args.m.now) (g.P.Planar.place_of c.args.m.now) c.loop-c.row.items h.0 h.1
+    record { count = h.0; each = h.1 }

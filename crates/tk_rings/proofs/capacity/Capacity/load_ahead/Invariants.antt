@@ -1,4 +1,4 @@
-use Rattle.std.proofs.Common.{◌≤◌, ◌*◌, ◌^◌, length}
+use Rattle.std.proofs.Common.{◌≤◌, ◌-◌, ◌*◌, ◌^◌, length, slice_index}
 use Rattle.tk_distance.specs.Cities.{IsCity}
 use Rattle.tk_rings.specs.Loads.{HasLoads}
 use Rattle.tk_rings.specs.declared.stretch.Stretch.{Stretch}
@@ -9,8 +9,8 @@ abbrev pub invariant-loop-k : goal.invariant-loop-k
 invariant-loop-k g l =
     let C = g.S.TourStore.cities l.tour in
     record {
-      city : IsCity (length C) l.c;
+      position : IsCity (length C) l.position;
       limit : l.load ≤ 2 ^ 32 * l.k;
       walked : (s : Stretch) (h : HasLoads l.self.capacity l.self.demands.now C l.walk s) →
-          Walked l.self.capacity l.self.demands.now h.path l.c l.k l.load;
+          Walked l.self.capacity l.self.demands.now h.path (slice_index C (l.position - 1)) l.k l.load;
     }

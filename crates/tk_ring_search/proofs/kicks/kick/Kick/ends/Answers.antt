@@ -21,3 +21,6 @@ returns-clause-cities g c =
     all_eight (length (g.S.TourStore.cities c.args.ring.now)) _ _ _ _ _ _ _ _ c.at.ensures.city c.at-2.ensures.city
     c.at-3.ensures.city c.at-4.ensures.city c.at-5.ensures.city c.at-6.ensures.city c.at-7.ensures.city
     c.at-8.ensures.city
+
+pub returns-clause-value : goal.returns-clause-value
+returns-clause-value g c = cc

@@ -1,6 +1,0 @@
-use Rattle.std.proofs.Common.{◌≡◌, length}
-use Rattle.tk_tour.specs.ArrayTours.{order_of}
-use Rattle.tk_bench.proofs.tour.flip_often.Given as goal
-
-abbrev pub invariant-loop : goal.invariant-loop
-invariant-loop l = l.n ≡ length (order_of l.tour)

@@ -1,0 +1,75 @@
+//! Benchmarks of the libraries. `bench/` compares them with programs in plain Rust.
+mod cities;
+mod descent;
+mod distances;
+mod draws;
+mod lines;
+mod near;
+mod places;
+mod savings;
+mod search;
+mod segments;
+mod strips;
+mod times;
+mod tour;
+
+use times::Times;
+
+/// A benchmark.
+#[derive(Clone, Copy)]
+pub enum Benchmark {
+    Descent,
+    Distances,
+    Near,
+    Savings,
+    Search,
+    Segments,
+    Tour,
+}
+
+/// The benchmarks, with their names.
+static BENCHMARKS: [(&str, Benchmark); 7] = [
+    ("descent", Benchmark::Descent),
+    ("distances", Benchmark::Distances),
+    ("near", Benchmark::Near),
+    ("savings", Benchmark::Savings),
+    ("search", Benchmark::Search),
+    ("segments", Benchmark::Segments),
+    ("tour", Benchmark::Tour),
+];
+
+/// The benchmark with this name, if there is one.
+pub fn benchmark_of(name: &str) -> Option<Benchmark> {
+    for (word, benchmark) in &BENCHMARKS {
+        if *word == name {
+            return Some(*benchmark);
+        }
+    }
+    None
+}
+
+/// Makes the run of a benchmark, and prints its times.
+pub fn run_one(rt: &HostRuntime, benchmark: Benchmark) -> anyhow::Result<()> {
+    run(rt, Times::Reported, benchmark)
+}
+
+/// Makes a small run of each benchmark, whose times are hidden.
+pub fn run_small(rt: &HostRuntime) -> anyhow::Result<()> {
+    for (_, benchmark) in &BENCHMARKS {
+        run(rt, Times::Hidden, *benchmark)?;
+    }
+    Ok(())
+}
+
+/// Makes the run of a benchmark, if its times are printed, or the small run, if they are hidden.
+fn run(rt: &HostRuntime, times: Times, benchmark: Benchmark) -> anyhow::Result<()> {
+    match benchmark {
+        Benchmark::Descent => descent::run(rt, times),
+        Benchmark::Distances => distances::run(rt, times),
+        Benchmark::Near => near::run(rt, times),
+        Benchmark::Savings => savings::run(rt, times),
+        Benchmark::Search => search::run(rt, times),
+        Benchmark::Segments => segments::run(rt, times),
+        Benchmark::Tour => tour::run(rt, times),
+    }
+}

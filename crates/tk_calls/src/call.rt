@@ -1,0 +1,96 @@
+//! The command line of the program: its argument, and the calls and runs that it requests.
+use crate::benchmarks::{Benchmark, benchmark_of, run_one, run_small};
+use crate::lines::{mark, tell_number};
+use crate::refusals::Stopped;
+use crate::{again, make_calls};
+use std::io;
+use std::process::ExitCode;
+
+/// The exit status if the arguments are rejected.
+const USAGE: u8 = 2;
+
+/// A request: all calls and a small run of each benchmark, the calls, or the run of a benchmark.
+#[derive(Clone, Copy)]
+enum Request {
+    All,
+    Calls,
+    One(Benchmark),
+}
+
+/// Reads the arguments of the call, and makes the calls and runs that they request.
+pub fn run_call(rt: &HostRuntime) -> ExitCode {
+    let request = match request_of_call(rt) {
+        Ok(Some(request)) => request,
+        Ok(None) => return refused(rt),
+        Err(stop) => return stopped(rt, &stop.into()),
+    };
+    match run_request(rt, request) {
+        Ok(()) => ExitCode::SUCCESS,
+        Err(error) => stopped(rt, &error),
+    }
+}
+
+/// The arguments of the call, the first of which is the name of the program.
+///
+/// # Errors
+/// If an argument is not UTF-8, or memory runs out.
+fn words_of(rt: &HostRuntime) -> io::Result<Vec<String>> {
+    let words = std::env::args(rt)?.collect::<Vec<String>>(rt.alloc())?;
+    Ok(words)
+}
+
+/// The request of the arguments, if they make one. If memory runs out, they are read again.
+fn request_of_call(rt: &HostRuntime) -> Result<Option<Request>, Stopped> {
+    let words = again!(rt, "args", words_of(rt))?;
+    Ok(request_by(&words))
+}
+
+/// The request of these arguments, the first of which is the name of the program.
+fn request_by(words: &[String]) -> Option<Request> {
+    match words {
+        [] | [_] => Some(Request::All),
+        [_, word] => request_of(word.as_str()),
+        _ => None,
+    }
+}
+
+/// The request of this argument, if it is one.
+fn request_of(word: &str) -> Option<Request> {
+    if word == "calls" {
+        return Some(Request::Calls);
+    }
+    Some(Request::One(benchmark_of(word)?))
+}
+
+/// Makes the requested calls and runs.
+fn run_request(rt: &HostRuntime, request: Request) -> anyhow::Result<()> {
+    match request {
+        Request::All => {
+            run_calls(rt, 0)?;
+            mark(rt, "benchmarks")?;
+            run_small(rt)
+        }
+        Request::Calls => Ok(run_calls(rt, 1)?),
+        Request::One(benchmark) => run_one(rt, benchmark),
+    }
+}
+
+/// Prints the number of arguments, and makes the calls.
+fn run_calls(rt: &HostRuntime, words: u32) -> Result<(), Stopped> {
+    tell_number(rt, "args", &words, "words")?;
+    make_calls(rt)
+}
+
+/// Prints the usage.
+fn refused(rt: &HostRuntime) -> ExitCode {
+    let _ = eprintln!(rt;
+        "usage: tk_calls [calls|descent|distances|near|savings|search|segments|tour]"
+    );
+    ExitCode::from(USAGE)
+}
+
+/// Prints why a run stopped.
+fn stopped(rt: &HostRuntime, error: &anyhow::Error) -> ExitCode {
+    let _ = eprintln!(rt; "tk_calls: {error}");
+    ExitCode::FAILURE
+}

@@ -1,4 +1,0 @@
-//! Parameter files.
-pub mod built;
-pub mod examples;
-pub mod texts;

@@ -1,0 +1,18 @@
+use Rattle.std.proofs.Common.{refl}
+use Rattle.tk_for_c.proofs.HandedTexts.{written}
+use Rattle.tk_for_c.proofs.Refusals.{problem_refusal}
+use Rattle.tk_for_c.proofs.info.tourkit_info.Goals as goal
+use Rattle.tk_for_c.specs.Answers.{fits_any}
+
+pub returns-in-Ok-clause-given : goal.returns-in-Ok-clause-given
+returns-in-Ok-clause-given c = λ _. (
+  c.in-Ok.known,
+  c.in-Ok.ensures.ok,
+  c.of.ensures,
+  written c.ended.ensures refl c.hand_out.ensures.needed c.hand_out.ensures.bytes c.deref.ensures.value,
+)
+
+pub returns-in-Err-clause-refused : goal.returns-in-Err-clause-refused
+returns-in-Err-clause-refused c = λ two.
+    problem_refusal fits_any c.args.problem.now c.stopped.result two c.in-Err.fault c.stopped.ensures.is
+    c.in-Err.ensures.err

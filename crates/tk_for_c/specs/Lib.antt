@@ -1,0 +1,17 @@
+pub mod Answers
+pub mod Arrays
+pub mod Checks
+pub mod Contents
+pub mod Ends
+pub mod Explained
+pub mod HandedOut
+pub mod InfoStruct
+pub mod Outcomes
+pub mod Plotted
+pub mod Points
+pub mod Searches
+pub mod Solved
+pub mod SolvedRoutes
+pub mod Texts
+pub mod Tours
+pub mod Weights

@@ -1,2 +1,0 @@
-pub mod FilledRoutes
-pub mod TourElements

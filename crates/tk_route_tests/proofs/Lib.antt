@@ -1,0 +1,3 @@
+pub mod FilledRoutes
+pub mod OnLiterals
+pub mod TourElements

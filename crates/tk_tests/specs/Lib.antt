@@ -1,0 +1,13 @@
+pub mod Columns
+pub mod DistanceExamples
+pub mod Examples
+pub mod FaultExamples
+pub mod JointExamples
+pub mod NumberExamples
+pub mod ProblemExamples
+pub mod SolutionExamples
+pub mod TourExamples
+pub mod TourTextExamples
+pub mod WeightExamples
+pub mod WordExamples
+pub mod WrittenExamples

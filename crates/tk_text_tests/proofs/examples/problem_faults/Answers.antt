@@ -1,7 +1,0 @@
-use Rattle.std.proofs.Common.{refl}
-use Rattle.tk_text_tests.proofs.OnLiterals.{on_literals}
-use Rattle.tk_text_tests.proofs.examples.problem_faults.Goals as goal
-
-pub returns : goal.returns
-unfolding on_literals
-returns c = record { headers = refl; places = refl; weights = refl; routing = refl; order = refl }

@@ -1,7 +1,0 @@
-use Rattle.std.proofs.Common.{refl}
-use Rattle.tk_text_tests.proofs.OnLiterals.{on_literals}
-use Rattle.tk_text_tests.proofs.examples.problems.Goals as goal
-
-pub returns : goal.returns
-unfolding on_literals
-returns c = record { accepted = refl; begun = refl }

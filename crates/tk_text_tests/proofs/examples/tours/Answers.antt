@@ -1,7 +1,0 @@
-use Rattle.std.proofs.Common.{refl}
-use Rattle.tk_text_tests.proofs.OnLiterals.{on_literals}
-use Rattle.tk_text_tests.proofs.examples.tours.Goals as goal
-
-pub returns : goal.returns
-unfolding on_literals
-returns c = record { accepted = refl; refused = refl; begun = refl; within = refl; entries = refl }

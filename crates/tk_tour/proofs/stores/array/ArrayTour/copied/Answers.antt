@@ -1,0 +1,5 @@
+use Rattle.std.proofs.Common.{refl}
+use Rattle.tk_tour.proofs.stores.array.ArrayTour.copied.Goals as goal
+
+pub returns : goal.returns
+returns c = refl

@@ -1,4 +1,0 @@
-pub mod Columns
-pub mod DistanceExamples
-pub mod JointExamples
-pub mod TourExamples
