@@ -22,9 +22,9 @@ use Rattle.tk_route_search.specs.declared.routes.SolvedRoutes.{SolvedRoutes}
 use Rattle.tk_engines.specs.Between.{AreFound, AreGivenRoutes, IsStartFault, IsStartRefused, between_task, route_task}
 use Rattle.tk_engines.specs.Between.{start_of}
 use Rattle.tk_engines.specs.Engine.{AreRead, Ends, HasRead, WritesNothing}
-use Rattle.tk_engines.specs.declared.outcomes.search.FoundBetween.{FoundBetween}
-use Rattle.tk_engines.specs.declared.outcomes.search.SearchOutcome.{SearchOutcome}
-use Rattle.tk_engines.specs.declared.outcomes.search.SearchOutcome.TheVariants.{Between}
+use Rattle.tk_outcomes.specs.declared.search.FoundBetween.{FoundBetween}
+use Rattle.tk_outcomes.specs.declared.search.SearchOutcome.{SearchOutcome}
+use Rattle.tk_outcomes.specs.declared.search.SearchOutcome.TheVariants.{Between}
 use Rattle.tk_engines.specs.declared.fault.Fault.{Fault}
 use Rattle.tk_engines.specs.declared.fault.Fault.TheVariants as faults
 use Rattle.tk_engines.proofs.ReadTables.{some_instance_read}

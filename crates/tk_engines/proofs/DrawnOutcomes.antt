@@ -22,9 +22,9 @@ use Rattle.tk_routes.specs.Routes.{AreRoutes}
 use Rattle.tk_routes.specs.declared.checking.verdict.RouteVerdict.{RouteVerdict}
 use Rattle.tk_routes.specs.declared.checking.verdict.RouteVerdict.TheVariants as route_verdicts
 use Rattle.tk_routes.proofs.FilledRoutes.{concat-filled}
-use Rattle.tk_engines.specs.Check.{verdict_line}
+use Rattle.tk_outcomes.specs.TourOutcomes.{verdict_line}
 use Rattle.tk_engines.specs.ReadProblems.{read_distance}
-use Rattle.tk_engines.specs.Lines.RouteLine.{route_verdict_line}
+use Rattle.tk_outcomes.specs.Lines.RouteLine.{route_verdict_line}
 use Rattle.tk_tour.proofs.CitiesOfTours.{cities_of_tour}
 use Rattle.tk_engines.proofs.ReadTables.{read_distance_is}
 use Rattle.tk_picture.specs.declared.picture.OutputFormat.{OutputFormat}

@@ -4,6 +4,7 @@ use Rattle.std.specs.Prelude.{IfErr, OnErr}
 use Rattle.tk_problem_text.specs.Problem.{ProblemIs}
 use Rattle.tk_writers.specs.declared.output.pen.WriteFault.{WriteFault}
 use Rattle.tk_engines.specs.Engine.{AreRead, AtWrite, BeforeSecond, Ends, EndsByProblem, HasRead, IsGiven, IsMisfit}
+use Rattle.tk_engines.specs.Engine.{UnlessWrite}
 use Rattle.tk_engines.specs.Engine.{IsSecondRefused, Reading, Task, Writing, WritesNothing}
 use Rattle.tk_engines.specs.Engine.{write_end, written_as}
 use Rattle.tk_engines.specs.declared.fault.Fault.{Fault}
@@ -141,3 +142,9 @@ pub failed_as : (P : Type 0) (w : Result (Unit {0}) WriteFault) (r : Result (Uni
     OnErr w P → IfErr r (AtWrite P)
 failed_as P (Ok u) r is h = rw is tt
 failed_as P (Err f) r is h = rw is h
+
+-- what is true of an engine's sinks also is, if it stopped for a fault other than a write fault
+pub unless_write : {R P : Type 0} (r : Result R Fault) → P → IfErr r (UnlessWrite P)
+unless_write (Ok answer) is = tt
+unless_write (Err (faults.Write f)) is = tt
+unless_write (Err fault) is = is

@@ -2,8 +2,9 @@ pub mod BetweenEnds
 pub mod ClaimsPlotted
 pub mod EngineEnds
 pub mod FilesWritten
+pub mod FoundCounts
 pub mod TourLengths
-pub mod PrintedLines
+pub mod NearLines
 pub mod ProblemTables
 pub mod ReadTables
 pub mod RouteChecks

@@ -9,7 +9,7 @@ use Rattle.tk_solve.specs.Starts.{TourTask}
 use Rattle.tk_solve.specs.declared.tour.SolvedTour.{SolvedTour}
 use Rattle.tk_engines.specs.Engine.{AreRead, Ends, HasRead, WritesNothing}
 use Rattle.tk_engines.specs.Solve.{BeforeSearch, IsFound, IsInitial, IsInitialRefused, search_task}
-use Rattle.tk_engines.specs.declared.outcomes.search.SearchOutcome.{SearchOutcome}
+use Rattle.tk_outcomes.specs.declared.search.SearchOutcome.{SearchOutcome}
 use Rattle.tk_engines.specs.declared.fault.Fault.{Fault}
 use Rattle.tk_engines.specs.declared.fault.Fault.TheVariants as faults
 

@@ -7,7 +7,8 @@ use Rattle.tk_tour.specs.declared.verdict.Verdict.{Verdict}
 use Rattle.tk_tour.specs.declared.verdict.Verdict.TheVariants.{Tour, WrongCount, OutOfRange, RepeatedCity}
 use Rattle.tk_tour.specs.Verdict.{IsVerdict}
 use Rattle.tk_engines.proofs.ReadTables.{read_distance_is}
-use Rattle.tk_engines.specs.Check.{IsTourOutcome, outcome_of, verdict_in}
+use Rattle.tk_outcomes.specs.TourOutcomes.{outcome_of, verdict_in}
+use Rattle.tk_engines.specs.Check.{IsTourOutcome}
 
 verdict_back : (n : ℕ) (d : ℕ → ℕ → ℕ) (cities : List ℕ) (v : Verdict) → verdict_in (outcome_of n d cities v) ≡ v
 verdict_back n d cities Tour = refl

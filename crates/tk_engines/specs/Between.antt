@@ -24,8 +24,8 @@ use Rattle.tk_engines.specs.Engine.{written_as}
 use Rattle.tk_engines.specs.ReadProblems.{instance_in}
 use Rattle.tk_engines.specs.RouteCheck.{without_routing}
 use Rattle.tk_engines.specs.Solve.{Files, files_with}
-use Rattle.tk_engines.specs.declared.outcomes.search.SearchOutcome.{SearchOutcome}
-use Rattle.tk_engines.specs.declared.outcomes.search.SearchOutcome.TheVariants.{Between}
+use Rattle.tk_outcomes.specs.declared.search.SearchOutcome.{SearchOutcome}
+use Rattle.tk_outcomes.specs.declared.search.SearchOutcome.TheVariants.{Between}
 use Rattle.tk_engines.specs.declared.fault.Fault.{Fault}
 use Rattle.tk_engines.specs.declared.fault.Fault.TheVariants.{InitialRoutes, NoMemory}
 use Rattle.tk_engines.specs.declared.fault.Fault.TheVariants.{Solution as InSolution}

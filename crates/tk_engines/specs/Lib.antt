@@ -2,7 +2,6 @@ pub mod Between
 pub mod Check
 pub mod Engine
 pub mod Info
-pub mod Lines
 pub mod MatrixOf
 pub mod NearText
 pub mod Plot

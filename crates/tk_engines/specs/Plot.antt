@@ -27,11 +27,11 @@ use Rattle.tk_routes.specs.Instance.{Instance}
 use Rattle.tk_routes.specs.RouteVerdicts.{IsRouteVerdict}
 use Rattle.tk_routes.specs.declared.checking.verdict.RouteVerdict.{RouteVerdict}
 use Rattle.tk_routes.specs.declared.checking.verdict.RouteVerdict.TheVariants as route_verdicts
-use Rattle.tk_engines.specs.Check.{verdict_line}
+use Rattle.tk_outcomes.specs.TourOutcomes.{verdict_line}
 use Rattle.tk_engines.specs.ReadProblems.{read_distance}
 use Rattle.tk_engines.specs.Engine.{AtWrite, EndsByProblem, HasRead, IsRead, IsUnread, IsUnwritten, NoClash, Reading}
 use Rattle.tk_engines.specs.Engine.{Reads, ReadsSolution, ReadsTour, Task, UnlessWrite, Writing}
-use Rattle.tk_engines.specs.Lines.RouteLine.{route_verdict_line}
+use Rattle.tk_outcomes.specs.Lines.RouteLine.{route_verdict_line}
 use Rattle.tk_engines.specs.ReadProblems.{instance_in}
 use Rattle.tk_engines.specs.declared.fault.Fault.{Fault}
 use Rattle.tk_engines.specs.declared.fault.Fault.TheVariants as faults

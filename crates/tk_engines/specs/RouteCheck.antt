@@ -7,7 +7,7 @@ use Rattle.tk_writers.specs.Puts.{Writes}
 use Rattle.tk_writers.specs.declared.output.sink.Sink as sinks
 use Rattle.tk_routes.specs.RouteVerdicts.{IsRouteVerdict}
 use Rattle.tk_routes.specs.declared.checking.verdict.RouteVerdict.{RouteVerdict}
-use Rattle.tk_engines.specs.Lines.RouteLine.{route_verdict_line}
+use Rattle.tk_outcomes.specs.Lines.RouteLine.{route_verdict_line}
 use Rattle.tk_engines.specs.Engine.{Ends, NoClash, ReadsProblem, ReadsSolution, Task, WritesNothing, written_as}
 use Rattle.tk_engines.specs.ReadProblems.{instance_in}
 use Rattle.tk_engines.specs.declared.fault.Fault.{Fault}

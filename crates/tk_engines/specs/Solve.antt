@@ -36,12 +36,12 @@ use Rattle.tk_engines.specs.ReadProblems.{read_distance}
 use Rattle.tk_engines.specs.Engine.{IsUnwritten, Reading, ReadsGiven, Task}
 use Rattle.tk_engines.specs.Engine.{Writing, written_as}
 use Rattle.tk_engines.specs.ReadProblems.{instance_in}
-use Rattle.tk_engines.specs.Lines.SolveLines.{search_lines}
-use Rattle.tk_engines.specs.declared.outcomes.search.FoundRoutes.{FoundRoutes}
-use Rattle.tk_engines.specs.declared.outcomes.search.FoundTour.{FoundTour}
-use Rattle.tk_engines.specs.declared.outcomes.search.SearchOutcome.{SearchOutcome}
-use Rattle.tk_engines.specs.declared.outcomes.search.SearchOutcome.TheVariants.{Between, Routes}
-use Rattle.tk_engines.specs.declared.outcomes.search.SearchOutcome.TheVariants.{Tour as Found}
+use Rattle.tk_outcomes.specs.Lines.SolveLines.{search_lines}
+use Rattle.tk_outcomes.specs.declared.search.FoundRoutes.{FoundRoutes}
+use Rattle.tk_outcomes.specs.declared.search.FoundTour.{FoundTour}
+use Rattle.tk_outcomes.specs.declared.search.SearchOutcome.{SearchOutcome}
+use Rattle.tk_outcomes.specs.declared.search.SearchOutcome.TheVariants.{Between, Routes}
+use Rattle.tk_outcomes.specs.declared.search.SearchOutcome.TheVariants.{Tour as Found}
 use Rattle.tk_engines.specs.declared.fault.Fault.{Fault}
 use Rattle.tk_engines.specs.declared.fault.Fault.TheVariants.{Initial, NoMemory, NotForType, Write}
 use Rattle.tk_engines.specs.declared.fault.Fault.TheVariants.{Tour as InTour}

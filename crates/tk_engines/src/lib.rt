@@ -10,8 +10,6 @@
 
 mod engines;
 mod fault;
-mod lines;
-mod outcomes;
 mod route_fault;
 
 pub use engines::between::{between_engine, between_outcome, search_between};
@@ -26,15 +24,12 @@ pub use engines::search::{search_outcome, search_problem};
 pub use engines::search_given::unfit_key;
 pub use engines::solve::{search_engine, solve_engine, write_found};
 pub use fault::Fault;
-pub use lines::between_lines::write_route_run_line;
-pub use lines::info_lines::{put_coordinate, write_info};
-pub use lines::route_line::write_route_verdict;
-pub use lines::solve_lines::{write_run_line, write_search_lines};
-pub use lines::tour_line::write_tour_outcome;
-pub use outcomes::info::{Area, DistanceInfo, ProblemInfo, RoutingInfo};
-pub use outcomes::search::{FoundBetween, FoundRoutes, FoundTour, SearchOutcome};
-pub use outcomes::tour::TourOutcome;
 pub use route_fault::RouteFault;
+pub use tk_outcomes::{
+    Area, DistanceInfo, FoundBetween, FoundRoutes, FoundTour, ProblemInfo, RoutingInfo,
+    SearchOutcome, TourOutcome, put_coordinate, write_info, write_route_run_line,
+    write_route_verdict, write_run_line, write_search_lines, write_tour_outcome,
+};
 pub use tk_params::{
     Construction, Key, ParamFault, ParamKind, Params, SearchBuilder, SearchSettings,
     decided_params_stay, each_params_text_has_an_answer, each_word_spells_its_key, key_of,

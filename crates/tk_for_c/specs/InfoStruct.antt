@@ -1,12 +1,12 @@
 -- What is known of the problem of a text, as a struct for C.
 use Rattle.std.specs.Prelude.{◌≡◌, ℕ, pos, false, List, Option, None, Some, is_some}
 use Rattle.tk_text.specs.Problem.{ProblemIs, problem_texts}
-use Rattle.tk_engines.specs.Info.{IsInfo}
-use Rattle.tk_engines.specs.declared.outcomes.info.Area.{Area}
-use Rattle.tk_engines.specs.declared.outcomes.info.DistanceInfo.{DistanceInfo}
-use Rattle.tk_engines.specs.declared.outcomes.info.DistanceInfo.TheVariants.{Explicit, Plane}
-use Rattle.tk_engines.specs.declared.outcomes.info.ProblemInfo.{ProblemInfo}
-use Rattle.tk_engines.specs.declared.outcomes.info.RoutingInfo.{RoutingInfo}
+use Rattle.tk_outcomes.specs.Infos.{IsInfo}
+use Rattle.tk_outcomes.specs.declared.info.Area.{Area}
+use Rattle.tk_outcomes.specs.declared.info.DistanceInfo.{DistanceInfo}
+use Rattle.tk_outcomes.specs.declared.info.DistanceInfo.TheVariants.{Explicit, Plane}
+use Rattle.tk_outcomes.specs.declared.info.ProblemInfo.{ProblemInfo}
+use Rattle.tk_outcomes.specs.declared.info.RoutingInfo.{RoutingInfo}
 use Rattle.tk_for_c.specs.Points.{kind_number}
 use Rattle.tk_for_c.specs.Texts.{IsWritten, TextSays}
 use Rattle.tk_for_c.specs.declared.answer.Answer.{Answer}

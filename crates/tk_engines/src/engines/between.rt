@@ -14,9 +14,9 @@ ghost use Rattle.tk_engines.specs.Solve.{AreUntouched, BeforeSearch, WritesFiles
 use crate::engines::between_given::{check_start, read_start, search_options};
 use crate::engines::solve::write_files;
 use crate::fault::{Fault, end_of};
-use crate::outcomes::search::{FoundBetween, SearchOutcome};
 use std::alloc::{AllocError, Global};
 use tk_lists::SolText;
+use tk_outcomes::{FoundBetween, SearchOutcome};
 use tk_params::SearchSettings;
 use tk_problem::Problem;
 use tk_problem_text::read_problem;

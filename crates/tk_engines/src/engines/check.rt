@@ -7,10 +7,9 @@ ghost use Rattle.tk_engines.specs.Engine.{Ends, ReadsTour, IsUnread, IsUnwritten
 ghost use Rattle.tk_engines.specs.Engine.{AtWrite, HasRead, WritesNothing};
 
 use crate::fault::Fault;
-use crate::lines::tour_line::write_tour_outcome;
-use crate::outcomes::tour::TourOutcome;
 use std::alloc::Global;
 use tk_lists::read_tour;
+use tk_outcomes::{TourOutcome, write_tour_outcome};
 use tk_problem::Problem;
 use tk_problem_text::read_problem;
 use tk_tour::{Verdict, check};

@@ -5,9 +5,8 @@ ghost use Rattle.tk_engines.specs.Engine.{AtWrite, IsUnwritten, UnlessWrite};
 ghost use Rattle.tk_engines.specs.Info.{FindsInfo, WritesInfo};
 
 use crate::fault::{Fault, end_of};
-use crate::lines::info_lines::write_info;
-use crate::outcomes::info::ProblemInfo;
 use std::alloc::Global;
+use tk_outcomes::{ProblemInfo, write_info};
 use tk_problem_text::read_problem;
 use tk_words::Source;
 use tk_writers::Sink;

@@ -18,11 +18,9 @@ ghost use Rattle.tk_engines.specs.Plot.{Plots, PlotsClaim, ReadsClaim, plot_task
 
 use crate::engines::plotted::Plotted;
 use crate::fault::Fault;
-use crate::lines::route_line::write_route_verdict;
-use crate::lines::tour_line::{length_of, write_tour_outcome};
-use crate::outcomes::tour::TourOutcome;
 use std::alloc::Global;
 use tk_lists::{SolText, read_solution, read_tour};
+use tk_outcomes::{TourOutcome, length_of, write_route_verdict, write_tour_outcome};
 use tk_picture::{OutputFormat, Picture, Subject, View, write_picture};
 use tk_problem::{Points, Problem, Weights};
 use tk_problem_text::{PlacedProblem, PlacesOrigin, read_placed_problem};

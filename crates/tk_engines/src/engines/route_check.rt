@@ -9,9 +9,9 @@ ghost use Rattle.tk_engines.specs.Engine.{AtWrite, HasRead, WritesNothing};
 ghost use Rattle.tk_engines.specs.RouteCheck.{route_outcome_task, ChecksRoutes, FindsRouteOutcome};
 
 use crate::fault::Fault;
-use crate::lines::route_line::write_route_verdict;
 use std::alloc::Global;
 use tk_lists::read_solution;
+use tk_outcomes::write_route_verdict;
 use tk_problem::Problem;
 use tk_problem_text::read_problem;
 use tk_routes::{Cvrp, RouteVerdict, check_routes};

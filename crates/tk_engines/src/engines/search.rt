@@ -20,10 +20,10 @@ use crate::engines::search_given::{
     check_initial, options_of, read_initial, unfit_key, unfit_start,
 };
 use crate::fault::Fault;
-use crate::outcomes::search::{FoundRoutes, FoundTour, SearchOutcome};
 use std::alloc::{AllocError, Global};
 use tk_distance::Table;
 use tk_lists::TourText;
+use tk_outcomes::{FoundRoutes, FoundTour, SearchOutcome};
 use tk_params::{Key, Params, SearchSettings};
 use tk_problem::Problem;
 use tk_problem_text::read_problem;

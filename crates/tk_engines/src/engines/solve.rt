@@ -11,9 +11,8 @@ ghost use Rattle.tk_engines.specs.Solve.{found_text, settings_task, solve_task};
 
 use crate::engines::search::{search_outcome, settings_outcome};
 use crate::fault::{Fault, end_of};
-use crate::lines::solve_lines::write_search_lines;
-use crate::outcomes::search::SearchOutcome;
 use std::alloc::Global;
+use tk_outcomes::{SearchOutcome, write_search_lines};
 use tk_params::{Key, Params, SearchSettings};
 use tk_solve::Watch;
 use tk_words::Source;

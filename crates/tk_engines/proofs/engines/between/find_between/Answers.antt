@@ -4,7 +4,7 @@ use Rattle.std.proofs.lemmas.List.{length-map}
 use Rattle.tk_distance.specs.Tables.{table_size-limit}
 use Rattle.tk_lists.specs.Solution.{lists_of}
 use Rattle.tk_engines.proofs.BetweenEnds.{few_reports}
-use Rattle.tk_engines.proofs.PrintedLines.LineLengths.{count_filled}
+use Rattle.tk_engines.proofs.FoundCounts.{count_filled}
 use Rattle.tk_engines.proofs.engines.between.find_between.Goals as goal
 
 pub invariant_of-result : goal.invariant_of-result

@@ -1,5 +1,6 @@
-use Rattle.tk_engines.specs.Check.{tour_outcome_task, verdict_in}
-use Rattle.tk_engines.specs.Lines.TourLine.{outcome_line}
+use Rattle.tk_outcomes.specs.TourOutcomes.{verdict_in}
+use Rattle.tk_engines.specs.Check.{tour_outcome_task}
+use Rattle.tk_outcomes.specs.Lines.TourLine.{outcome_line}
 use Rattle.tk_engines.proofs.EngineEnds.{given_as}
 use Rattle.tk_engines.proofs.engines.check.check_engine.Goals as goal
 

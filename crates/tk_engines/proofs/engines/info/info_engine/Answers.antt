@@ -1,6 +1,6 @@
 use Rattle.tk_writers.specs.Puts.{Writes}
 use Rattle.tk_engines.specs.Info.{info_outcome_task}
-use Rattle.tk_engines.specs.Lines.InfoLines.{info_lines}
+use Rattle.tk_outcomes.specs.Lines.InfoLines.{info_lines}
 use Rattle.tk_engines.specs.Engine.{UnlessWrite}
 use Rattle.tk_engines.proofs.EngineEnds.{ends_as, failed_as, if_unwritten}
 use Rattle.tk_engines.proofs.engines.info.info_engine.Goals as goal

@@ -1,6 +1,6 @@
 use Rattle.std.proofs.Common.{arith, rules}
-use Rattle.tk_engines.proofs.PrintedLines.Labels.{Writes-short}
-use Rattle.tk_engines.proofs.PrintedLines.NearLines.{length_near_text}
+use Rattle.tk_outcomes.proofs.PrintedLines.Labels.{Writes-short}
+use Rattle.tk_engines.proofs.NearLines.{length_near_text}
 use Rattle.tk_engines.proofs.engines.near.write_near_lists.Goals as goal
 
 pub returns : goal.returns

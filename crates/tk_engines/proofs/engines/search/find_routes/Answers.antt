@@ -2,7 +2,7 @@ use Rattle.std.proofs.Common.{ap, arith, length, rules}
 use Rattle.std.proofs.lemmas.List.{length-map}
 use Rattle.tk_distance.specs.Tables.{table_size-limit}
 use Rattle.tk_routes.specs.RouteLists.{routes_of}
-use Rattle.tk_engines.proofs.PrintedLines.LineLengths.{count_filled}
+use Rattle.tk_engines.proofs.FoundCounts.{count_filled}
 use Rattle.tk_engines.proofs.engines.search.find_routes.Goals as goal
 
 pub invariant_of-result : goal.invariant_of-result
@@ -22,3 +22,6 @@ invariant_of-result c =
       );
       few_customers = rw c.into_lists.ensures (omega (arith, valid.once.0, table_size-limit c.args.cvrp.now.table));
     }
+
+pub returns : goal.returns
+returns = search rules

@@ -23,3 +23,6 @@ returns g c =
           (searched_ends (λ _. None) _ _ _ _ refl r searched.together searched.found searched.err);
       unwatched = searched.unwatched;
     }
+
+pub returns-in-Some-clause-unwatched : goal.returns-in-Some-clause-unwatched
+returns-in-Some-clause-unwatched = search rules

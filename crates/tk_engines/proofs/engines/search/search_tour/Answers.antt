@@ -9,7 +9,7 @@ use Rattle.tk_solve.specs.Watching.{WereShown, nothing, next}
 use Rattle.tk_solve.proofs.Watched.{shown_both}
 use Rattle.tk_engines.proofs.SolveEnds.{IfOk-watched}
 use Rattle.tk_engines.proofs.ReadTables.{distances_read}
-use Rattle.tk_engines.proofs.PrintedLines.LineLengths.{IfOk-count}
+use Rattle.tk_engines.proofs.FoundCounts.{IfOk-count}
 use Rattle.tk_engines.specs.Solve.{cities_in, tour_task}
 use Rattle.tk_engines.proofs.engines.search.search_tour.Given.{Over}
 use Rattle.tk_engines.proofs.engines.search.search_tour.Goals as goal

@@ -1,8 +1,0 @@
-pub mod Decimals
-pub mod InfoLines
-pub mod Labels
-pub mod LineLengths
-pub mod NearLines
-pub mod RouteLines
-pub mod RunLines
-pub mod TourLines

@@ -1,7 +1,0 @@
-use Rattle.tk_writers.proofs.Pieces.Putting.{Puts-then}
-use Rattle.tk_engines.proofs.PrintedLines.Labels.{Puts-label}
-use Rattle.tk_engines.proofs.lines.between_lines.put_route_run.Goals as goal
-
-pub returns : goal.returns
-returns g c = Puts-then (Puts-then (Puts-label _ _ c.put_costs.ensures c.put_labelled.ensures) c.put_work.ensures)
-    c.put.ensures

@@ -1,5 +1,0 @@
-use Rattle.tk_writers.proofs.Pieces.Putting.{Puts-then}
-use Rattle.tk_engines.proofs.lines.between_lines.put_routes_line.Goals as goal
-
-pub returns : goal.returns
-returns g c = Puts-then c.put_routes.ensures c.put.ensures

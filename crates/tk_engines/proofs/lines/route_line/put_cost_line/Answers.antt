@@ -1,7 +1,0 @@
-use Rattle.tk_picture.proofs.PutLine.{Puts-both}
-use Rattle.tk_engines.proofs.PrintedLines.Labels.{Puts-label}
-use Rattle.tk_engines.proofs.lines.route_line.put_cost_line.Goals as goal
-
-pub returns : goal.returns
-returns g c =
-    Puts-both _ _ (Puts-label _ _ c.put_labelled.ensures c.put_labelled-2.ensures) c.put.ensures

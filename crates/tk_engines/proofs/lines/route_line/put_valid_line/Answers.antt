@@ -1,7 +1,0 @@
-use Rattle.tk_writers.proofs.Pieces.Putting.{Puts-then}
-use Rattle.tk_engines.proofs.PrintedLines.Labels.{Puts-label}
-use Rattle.tk_engines.proofs.lines.route_line.put_valid_line.Goals as goal
-
-pub returns : goal.returns
-returns g c =
-    Puts-then (Puts-label _ _ c.put_number.ensures c.put_labelled.ensures) c.put.ensures

@@ -1,0 +1,3 @@
+pub mod Infos
+pub mod Lines
+pub mod TourOutcomes
