@@ -1,6 +1,6 @@
 -- The order of explicit weights, line by line.
 use Rattle.std.proofs.Common.{Bool, true, false, ltb, leb, ◌&&◌, ◌≡◌, ℕ, zero, suc, ◌+◌, ◌-◌, ◌<◌, ◌≤◌, List, [], ◌∷◌}
-use Rattle.std.proofs.Common.{◌++◌, inl, inr, map, arith, ap, ◌∙◌, refl, drop, length, sym}
+use Rattle.std.proofs.Common.{◌++◌, inl, inr, map, arith, ap, ◌∙◌, refl, drop, length, sym, ◌==◌, Some, slice_get}
 use Rattle.std.specs.List.{range_with_len, flat_map, filter}
 use Rattle.std.proofs.lemmas.List.{append-nil}
 use Rattle.std.proofs.lemmas.List.Elements.{filter-append}
@@ -47,6 +47,36 @@ places_last f n line item end last done more =
 
     none : (from : ℕ) → end ≤ from → items f line from end ≡ []
     none from over = let left : end - from ≡ 0 = omega arith in rw left refl
+
+-- no cell is left exactly if no item of the line is left
+pub none_left : (f : Format) (n line item end : ℕ)
+    → (end ≤ item → weight_lines f n (line + 1) (n - (line + 1)) ≡ [])
+    → leb end item ≡ (length (places_from f n line item end) == 0)
+none_left f n line item end done =
+    elim (cases_lt item end) as (λ _. leb end item ≡ (length (places_from f n line item end) == 0)) [
+      | inl less ↦
+          let some : 0 < length (places_from f n line item end) =
+          rw (places_more f n line item end less) (omega arith) in
+          grind (arith, nat_tests)
+      | inr over ↦
+          let left : end - item ≡ 0 = omega arith in
+          let empty : places_from f n line item end ≡ [] = rw (left, done over) refl in
+          let none : length (places_from f n line item end) ≡ 0 = ap length empty in
+          grind (arith, nat_tests)
+    ]
+
+-- the first cell that is left is that of the next item
+pub first_left : (f : Format) (n line item end : ℕ)
+    → (end ≤ item → weight_lines f n (line + 1) (n - (line + 1)) ≡ []) → 0 < length (places_from f n line item end)
+    → slice_get (places_from f n line item end) 0 ≡ Some (place_on f line item)
+first_left f n line item end done more =
+    elim (cases_lt item end) as (λ _. slice_get (places_from f n line item end) 0 ≡ Some (place_on f line item)) [
+      | inl less ↦ ap (λ ps. slice_get ps 0) (places_more f n line item end less)
+      | inr over ↦
+          let left : end - item ≡ 0 = omega arith in
+          let empty : places_from f n line item end ≡ [] = rw (left, done over) refl in
+          absurd (omega (arith, more, ap length empty))
+    ]
 
 -- ---- the order, which is a selection of all cells, goes through the cells line by line
 

@@ -1,4 +1,4 @@
-use Rattle.std.proofs.Common.{ap, ◌∙◌, get_or}
+use Rattle.std.proofs.Common.{ap, ◌∙◌, get_or, rules}
 use Rattle.tk_descent.specs.Awake.{woken}
 use Rattle.tk_descent.proofs.WakeExecutions.WokenQueue.{wake_more}
 use Rattle.tk_descent.proofs.waking.Waking.wake_each.Goals as goal
@@ -10,3 +10,6 @@ loop-c-preserved c = record {
       ∙ wake_more _ c.args.cities.now c.loop-c.c-index 0 c.loop-c-test.true;
   size = c.wake.ensures.size ∙ c.loop-c.invariant.size;
 }
+
+pub loop-c-init : goal.loop-c-init
+loop-c-init = search rules

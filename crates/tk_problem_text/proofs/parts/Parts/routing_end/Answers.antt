@@ -30,6 +30,9 @@ over_alone c ps k =
     rest_of_routing k (routing c) rests
     ∙ ap (λ d. first_kind (over_capacity c.in-Some.capacity 1 d)) (sym c.deref-2.ensures.value)
 
+pub returns-in-Some-first_over-clause-none : goal.returns-in-Some-first_over-clause-none
+returns-in-Some-first_over-clause-none c = λ ps k e. cc
+
 pub returns-in-Some-first_over-clause-fault : goal.returns-in-Some-first_over-clause-fault
 returns-in-Some-first_over-clause-fault c = λ ps k.
     let at = (goal.at.returns-in-Some-first_over-clause-fault c).After-first_over in

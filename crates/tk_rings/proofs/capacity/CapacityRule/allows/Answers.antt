@@ -1,4 +1,4 @@
-use Rattle.std.proofs.Common.{sym, ◌∙◌, ap, subst}
+use Rattle.std.proofs.Common.{sym, ◌∙◌, ap, subst, rules}
 use Rattle.tk_descent.specs.Machine.{IsOfferOn}
 use Rattle.tk_descent.proofs.MovesOnTours.Rounds.{round_of}
 use Rattle.tk_descent.proofs.OfferLists.Made.{forward_back}
@@ -29,3 +29,6 @@ returns-else-next-x g c =
     (round_of C (g.met.S.TourStore.is_tour c.args.tour.now)).distinct c.requires.fits o.a o.x o.e o.b o.y o.w
     (subst (λ z. IsOfferOn 3 z C) o.is c.requires.on_tour)
     ∙ ap (is_allowed me.capacity me.demands.now C) (sym o.is)
+
+pub returns-in-Two : goal.returns-in-Two
+returns-in-Two = search rules

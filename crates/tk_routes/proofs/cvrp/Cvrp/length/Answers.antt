@@ -1,9 +1,10 @@
-use Rattle.std.proofs.Common.{ℕ, ◌≤◌, List, length, arith}
+use Rattle.std.proofs.Common.{◌≡◌, ℕ, ℤ, ◌≤◌, ◌≤ℤ◌, List, length, arith, pos}
 use Rattle.std.specs.Prelude.{map}
 use Rattle.std.proofs.lemmas.Int.{ints}
 use Rattle.std.proofs.lemmas.List.{length-map}
 use Rattle.tk_problem.specs.declared.limits.TheConstants.{CITY_LIMIT}
 use Rattle.tk_distance.specs.Tables.{table_distance, table_distance-same, table_distance-limit}
+use Rattle.tk_distance.specs.declared.table.Table.{Table}
 use Rattle.tk_tour.proofs.Lengths.{way_back-end}
 use Rattle.tk_routes.specs.Cvrps.{instance_of}
 use Rattle.tk_routes.specs.Instance.{node_of}
@@ -21,6 +22,10 @@ fitting cvrp route few = omega (
   few,
   route_length-limit (instance_of cvrp) route (table_distance-same cvrp.table) (table_distance-limit cvrp.table),
 )
+
+-- a distance is at most 4,000,000,000
+within_limit : (table : Table) (a b : ℕ) (d : ℤ) → d ≡ pos (table_distance table a b) → d ≤ℤ pos 4000000000
+within_limit table a b d is = omega (arith, ints, is, table_distance-limit table a b)
 
 pub overflow_add-total : goal.overflow_add-total
 overflow_add-total c =
@@ -54,19 +59,15 @@ loop-customer-preserved c =
 pub overflow_add-result : goal.overflow_add-result
 overflow_add-result c =
     let cvrp = c.args.self.now in
-    let nodes = map (node_of cvrp.depot) c.args.route.now in
     let h = c.loop-customer in
-    let past : length nodes ≤ h.customer-index =
-    omega (arith, length-map c.args.route.now (node_of cvrp.depot), c.loop-customer-test.false) in
-    let end = way_back-end (table_distance cvrp.table) h.from cvrp.depot h.customer-index nodes past in
     omega (
       arith,
       ints,
       fitting cvrp c.args.route.now c.requires.few,
-      end,
       h.invariant.low,
       h.invariant.left,
       c.dist.ensures,
+      within_limit cvrp.table _ _ _ c.dist.ensures,
     )
 
 pub returns : goal.returns

@@ -21,3 +21,7 @@ invariant_of-self-clause-paid c =
     paid_alike n (length (list_of new)) (room_of s.seen) (room_of new) (saturated (s.writes + k.result))
     _ (segment_count_of new) (saturated (s.swaps + c.args.count / 2) + s.undo_swaps) _
     same (sym k.ensures.room) (omega arith) (omega arith) h
+
+pub returns-clause-writes : goal.returns-clause-writes
+returns-clause-writes c =
+    c.saturating_add-self.ensures ∙ ap (λ n. saturated (c.args.self.now.writes + n)) c.reverse-written.ensures.exact

@@ -22,3 +22,13 @@ invariant_of-self-clause-paid c =
     paid_alike n (length (list_of new)) (room_of s.seen) (room_of new) (saturated (s.writes + k.result))
     _ (segment_count_of new) (s.swaps + saturated (s.undo_swaps + flip.count / 2)) _
     same (sym k.ensures.room) (omega arith) (omega arith) h
+
+pub returns-clause-places : goal.returns-clause-places
+returns-clause-places c = c.undo-written.ensures.list
+
+pub returns-clause-writes : goal.returns-clause-writes
+returns-clause-writes c =
+    c.saturating_add-self.ensures ∙ ap (λ n. saturated (c.args.self.now.writes + n)) c.undo-written.ensures.exact
+
+pub returns-clause-written : goal.returns-clause-written
+returns-clause-written c = rw c.undo-written.ensures.exact at c.undo-written.ensures.written

@@ -1,4 +1,4 @@
-use Rattle.std.proofs.Common.{rules, ◌≡◌, ℕ, List, ◌∷◌, replicate, sym, ap, ◌∙◌, subst}
+use Rattle.std.proofs.Common.{rules, ◌≡◌, ℕ, List, [], ◌∷◌, ◌++◌, replicate, sym, ap, ◌∙◌, subst}
 use Rattle.std.specs.List.{flat_map}
 use Rattle.std.proofs.lemmas.List.{take_all}
 use Rattle.tk_tour.specs.Tour.{IsTour}
@@ -22,3 +22,6 @@ returns-clause-tour g c =
     (take_all c.loop-list.list-index c.deref-list-items.result.now c.loop-list-test.false
     ∙ c.deref-list-items.ensures.value)) in
     subst (λ (x : List ℕ). IsTour (g.M.Metric.size_of c.args.metric.now) x) (sym e) c.in_ok-lists.ensures.once
+
+pub loop-list-init : goal.loop-list-init
+loop-list-init g c = c.in_ok-push.ensures.items ∙ ap (λ xs. xs ++ 1 ∷ []) c.new-tour.ensures.items

@@ -4,6 +4,12 @@ use Rattle.tk_problem_text.specs.Sections.WeightSection.{weights_in}
 use Rattle.tk_problem_text.proofs.SectionTokens.WeightTokens.{next_of, if_some}
 use Rattle.tk_problem_text.proofs.sections.explicit_weights.ExplicitWeights.again.Goals as goal
 
+pub returns-then-weight-clause-ok : goal.returns-then-weight-clause-ok
+returns-then-weight-clause-ok c = λ n f toks has.
+    let kept = if_some (λ p. c.weight.result ≡ weight_of p.row p.column (entries f n (weights_in toks))) c.requires.next
+    (c.weight.ensures f n (weights_in toks) has.so_far) in
+    cc
+
 pub returns-clause-err : goal.returns-clause-err
 returns-clause-err c = λ n f toks has.
     let place = c.args.place in
