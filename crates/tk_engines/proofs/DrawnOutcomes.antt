@@ -1,14 +1,10 @@
 -- What is drawn or reported, by what a problem's text gives.
 use Rattle.std.proofs.Common.{◌≡◌, ℕ, List, Option, Some, None, true, refl}
-use Rattle.std.proofs.Common.{length, ap, arith, subst}
-use Rattle.std.proofs.lemmas.Grind.{not_there}
+use Rattle.std.proofs.Common.{length, ap, subst}
 use Rattle.std.specs.Prelude.{ℤ, IsSomeAnd, option_map, is_some}
 use Rattle.std.specs.List.{concat}
 use Rattle.tk_problem.specs.declared.problem.Problem.{Problem}
-use Rattle.tk_problem.specs.declared.point.Point.{Point}
 use Rattle.tk_problem.specs.declared.routing.Routing.{Routing}
-use Rattle.tk_problem.specs.declared.weights.PlaneKind.{PlaneKind}
-use Rattle.tk_problem.specs.declared.weights.Weights.TheVariants.{Points}
 use Rattle.tk_problem_text.specs.declared.placed_problem.GivenPlaces.{GivenPlaces}
 use Rattle.tk_problem_text.specs.ProblemOf.{problem_is, routing_is, weights_are}
 use Rattle.tk_distance.specs.Weights.{problem_distance}
@@ -87,8 +83,3 @@ served_once i routes are =
 pub routed_of : (o : Option Routing) (P : Routing → Type 0) → IsSomeAnd o P → is_some (routing_is o) ≡ true
 routed_of (Some r) P some = refl
 routed_of None P some = elim some [ ]
-
--- a problem with places has as many as it has cities
-pub points_size : (p : Problem) (kind : PlaneKind) (points : List Point) → p.weights ≡ Points kind points →
-    length points ≡ p.n
-points_size p kind points is = let fit = rw is at p.weights_fit in grind (arith, not_there fit)

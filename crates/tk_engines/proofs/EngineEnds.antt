@@ -4,8 +4,7 @@ use Rattle.std.specs.Prelude.{IfErr, OnErr}
 use Rattle.tk_problem_text.specs.Problem.{ProblemIs}
 use Rattle.tk_writers.specs.declared.output.pen.WriteFault.{WriteFault}
 use Rattle.tk_engines.specs.Engine.{AreRead, AtWrite, BeforeSecond, Ends, EndsByProblem, HasRead, IsGiven, IsMisfit}
-use Rattle.tk_engines.specs.Engine.{UnlessWrite}
-use Rattle.tk_engines.specs.Engine.{IsSecondRefused, Reading, Task, Writing, WritesNothing}
+use Rattle.tk_engines.specs.Engine.{IsSecondRefused, Reading, Task, UnlessWrite, Writing, WritesNothing}
 use Rattle.tk_engines.specs.Engine.{write_end, written_as}
 use Rattle.tk_engines.specs.declared.fault.Fault.{Fault}
 use Rattle.tk_engines.specs.declared.fault.Fault.TheVariants as faults
