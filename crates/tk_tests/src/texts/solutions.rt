@@ -5,7 +5,7 @@ use crate::texts::fakes::Drip;
 use crate::texts::repeated;
 use std::alloc::Global;
 use std::process::Abort;
-use tk_text::{FromRead, Keyword, SolText, TextFault, TextKind, read_solution};
+use tk_text::{FromRead, SolText, TextFault, TextKind, read_solution};
 
 fn read_whole(alloc: Global, text: &[u8]) -> Result<SolText, TextFault> {
     let mut source = FromRead::new(text);
@@ -55,19 +55,6 @@ fn tells(alloc: Global, text: &[u8], routes: &[&[u32]], cost: i64) -> bool {
         && is_solution(read_dripping(alloc, text, false), routes, cost)
 }
 
-/// Whether the text, read at once and byte by byte, has this fault.
-fn refuses(alloc: Global, text: &[u8], line: u64, kind: TextKind) -> bool {
-    is_fault(read_whole(alloc, text), line, kind)
-        && is_fault(read_dripping(alloc, text, false), line, kind)
-}
-
-/// Checks that each text has the fault next to it.
-fn refuse(rt: &impl Abort, alloc: Global, rows: &[(&[u8], u64, TextKind)]) {
-    for (text, line, kind) in rows {
-        expect(rt, refuses(alloc, text, *line, *kind));
-    }
-}
-
 #[test]
 fn routes_and_cost(rt: HostRuntime) {
     let a = rt.alloc();
@@ -90,28 +77,6 @@ fn routes_and_cost(rt: HostRuntime) {
         ),
     );
     expect(&rt, tells(a, b"Cost 46\nVEHICLES #2: 1", &[], 46));
-}
-
-#[test]
-fn faults_of_solutions(rt: HostRuntime) {
-    refuse(
-        &rt,
-        rt.alloc(),
-        &[
-            (
-                b" Route -3:\t5 1 2 3 4\n",
-                2,
-                TextKind::Missing(Keyword::Cost),
-            ),
-            (b"Route #1: 1\nC", 2, TextKind::UnknownKeyword),
-            (b"Route - 3 2 1\n", 1, TextKind::BadNumber),
-            (b"Route #1: 1 EOF\n", 1, TextKind::BadNumber),
-            (b"Route #1: 3 4 -1\n", 1, TextKind::OutOfLimit),
-            (b"Cost\n: 16\n", 1, TextKind::BadNumber),
-            (b"Route #1: 4\nCost 24 1\n", 2, TextKind::TrailingData),
-            (b"Cost : 46\nroute x\n", 2, TextKind::TrailingData),
-        ],
-    );
 }
 
 /// Texts from sources that fail, and their faults. The failure of a source is reported if the bytes before it do not

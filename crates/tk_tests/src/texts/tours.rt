@@ -2,10 +2,9 @@
 
 use crate::given::expect;
 use crate::texts::fakes::{Drip, Padded};
-use crate::texts::repeated;
 use std::alloc::Global;
 use std::process::Abort;
-use tk_text::{FromRead, Keyword, TEXT_LIMIT, TextFault, TextKind, TourText, read_tour};
+use tk_text::{FromRead, TEXT_LIMIT, TextFault, TextKind, TourText, read_tour};
 
 fn read_whole(alloc: Global, text: &[u8]) -> Result<TourText, TextFault> {
     let mut source = FromRead::new(text);
@@ -53,24 +52,10 @@ fn lists(alloc: Global, text: &[u8], cities: &[u32]) -> bool {
         && is_list(read_pieces(alloc, text, 7, false), cities)
 }
 
-/// Whether the text, read at once, byte by byte and in pieces of 7 bytes, has this fault.
-fn refuses(alloc: Global, text: &[u8], line: u64, kind: TextKind) -> bool {
-    is_fault(read_whole(alloc, text), line, kind)
-        && is_fault(read_dripping(alloc, text, false), line, kind)
-        && is_fault(read_pieces(alloc, text, 7, false), line, kind)
-}
-
 /// Checks that each text lists the cities next to it.
 fn accept(rt: &impl Abort, alloc: Global, rows: &[(&[u8], &[u32])]) {
     for (text, cities) in rows {
         expect(rt, lists(alloc, text, cities));
-    }
-}
-
-/// Checks that each text has the fault next to it.
-fn refuse(rt: &impl Abort, alloc: Global, rows: &[(&[u8], u64, TextKind)]) {
-    for (text, line, kind) in rows {
-        expect(rt, refuses(alloc, text, *line, *kind));
     }
 }
 
@@ -106,151 +91,6 @@ fn lists_end(rt: HostRuntime) {
                 b"TOUR_SECTION 5 -1\nCOMMENT a\nCOMMENT b\nTYPE TOUR no\nNAME\n",
                 &[5],
             ),
-        ],
-    );
-}
-
-#[test]
-fn faults_of_lists(rt: HostRuntime) {
-    refuse(
-        &rt,
-        rt.alloc(),
-        &[
-            (
-                b"TYPE : TOUR\nTOUR_SECTION\n1 2 -1\n5\n",
-                4,
-                TextKind::TrailingData,
-            ),
-            (
-                b"TYPE : TOUR\nTOUR_SECTION : 1 2 -1 -1 x\n",
-                2,
-                TextKind::TrailingData,
-            ),
-            (
-                b"TYPE : TOUR\nTOUR_SECTION\n1\n-1\n-1\n-1\n",
-                6,
-                TextKind::TrailingData,
-            ),
-            (
-                b"TYPE : TOUR\nTOUR_SECTION\n1 -1 NAME",
-                3,
-                TextKind::TrailingData,
-            ),
-            (
-                b"TYPE : TOUR\nTOUR_SECTION\n1 2\nNAME : x\n",
-                4,
-                TextKind::Truncated,
-            ),
-            (
-                b"TYPE : TOUR\nTOUR_SECTION\n1 2\nVehicles: x\n",
-                4,
-                TextKind::Truncated,
-            ),
-            (b"TYPE : TOUR\nTOUR_SECTION\n1 2x\n", 3, TextKind::BadNumber),
-            (
-                b"TYPE : TOUR\nTOUR_SECTION\n1 EOF-x\n",
-                3,
-                TextKind::BadNumber,
-            ),
-            (
-                b"TYPE : TOUR\nTOUR_SECTION\n1 -2\n",
-                3,
-                TextKind::OutOfLimit,
-            ),
-            (
-                b"TYPE : TOUR\nTOUR_SECTION\n4294967296\n",
-                3,
-                TextKind::OutOfLimit,
-            ),
-            (b"TOUR_SECTION\n-1\nTOUR_SECTION\n", 3, TextKind::Repeated),
-        ],
-    );
-}
-
-/// Tokens and words of 64 bytes, and of one more.
-#[test]
-fn long_tokens(rt: HostRuntime) {
-    refuse(
-        &rt,
-        rt.alloc(),
-        &[
-            (
-                b"TOUR_SECTION 1111111111111111111111111111111111111111111111111111111111111111 ",
-                1,
-                TextKind::BadNumber,
-            ),
-            (
-                b"TOUR_SECTION 11111111111111111111111111111111111111111111111111111111111111111",
-                1,
-                TextKind::TooLong,
-            ),
-            (
-                b"TOUR_SECTION -1\n11111111111111111111111111111111111111111111111111111111111111111",
-                2,
-                TextKind::TrailingData,
-            ),
-            (
-                b"aaaaaaaaaaaaaaaaaaaaaaaaaaaaaaaaaaaaaaaaaaaaaaaaaaaaaaaaaaaaaaaa",
-                1,
-                TextKind::UnknownKeyword,
-            ),
-            (
-                b"aaaaaaaaaaaaaaaaaaaaaaaaaaaaaaaaaaaaaaaaaaaaaaaaaaaaaaaaaaaaaaaaa",
-                1,
-                TextKind::TooLong,
-            ),
-        ],
-    );
-}
-
-#[test]
-fn faults_of_lines(rt: HostRuntime) {
-    refuse(
-        &rt,
-        rt.alloc(),
-        &[
-            (
-                b"TYPE : TOUR\nDIMENSION : 3\ndimension : 3\n",
-                3,
-                TextKind::Repeated,
-            ),
-            (b"", 1, TextKind::Missing(Keyword::Type)),
-            (
-                b"TYPE : TOUR\nEOF\n",
-                2,
-                TextKind::Missing(Keyword::TourSection),
-            ),
-            (b"\n TYPE : ATSP\n", 2, TextKind::Unsupported),
-            (b"CAPACITY : 5\n", 1, TextKind::Unsupported),
-            (b"NODE_COORD_SECTION\n", 1, TextKind::Unsupported),
-            (b"DIMENSION : 0\n", 1, TextKind::OutOfLimit),
-            (b"DIMENSION : 1000001", 1, TextKind::OutOfLimit),
-            (b"DIMENSION :\n", 1, TextKind::BadNumber),
-            (b"FOO : 1\n", 1, TextKind::UnknownKeyword),
-            (b"\n\n5\n", 3, TextKind::TrailingData),
-        ],
-    );
-}
-
-/// Checks that each line with this word and a value of this many bytes has the fault next to it.
-fn refuse_lines(rt: &impl Abort, alloc: Global, rows: &[(&[u8], usize, u64, TextKind)]) {
-    for (word, count, line, kind) in rows {
-        let text = repeated(rt, alloc, word, b"x", *count, b"\n");
-        expect(rt, refuses(alloc, &text, *line, *kind));
-    }
-}
-
-#[test]
-fn long_headers(rt: HostRuntime) {
-    refuse_lines(
-        &rt,
-        rt.alloc(),
-        &[
-            (b"COMMENT ", 4095, 2, TextKind::Missing(Keyword::Type)),
-            (b"COMMENT ", 4096, 1, TextKind::TooLong),
-            (b"CAPACITY ", 4096, 1, TextKind::TooLong),
-            (b"NAME : ", 1024, 2, TextKind::Missing(Keyword::Type)),
-            (b"NAME : ", 1025, 1, TextKind::TooLong),
         ],
     );
 }

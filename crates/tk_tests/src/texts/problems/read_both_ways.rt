@@ -49,13 +49,6 @@ pub fn fault(line: u64, kind: TextKind) -> Option<TextFault> {
     Some(TextFault { line, kind })
 }
 
-/// Checks that each text has the fault next to it.
-pub fn refuse<A: Abort>(rt: &A, alloc: Global, rows: &[(&[u8], u64, TextKind)]) {
-    for (text, line, kind) in rows {
-        expect(rt, read(rt, alloc, text).err() == fault(*line, *kind));
-    }
-}
-
 /// Checks that the text is read as this problem.
 pub fn accept<A: Abort>(rt: &A, alloc: Global, text: &[u8], wanted: &Reported<'_>) {
     expect(rt, is_accepted(read(rt, alloc, text), wanted));
