@@ -3,7 +3,7 @@
 --     Descent      a descent from one state to another, with its report
 --     Sweeping      a swept descent: passes with all cities awake, until one makes no move
 --     IsDescent, IsSweeping      a descent and a swept descent, from a tour, waking cities and gains to those after it
---     DescentUnder, SweepingUnder, IsDescentUnder, IsSweepingUnder      descents and swept descents under a rule
+--     DescentUnder, SweepingUnder      a descent and a swept descent under a rule
 --     AreOfSize      gains, near lists and waking cities for a number of cities
 -- A rule is given by `fits`, the cycles that fit, and `may`: the offer o is allowed on the cycle C if `may C o` is
 -- true.
@@ -20,7 +20,6 @@ use Rattle.tk_descent.specs.WakeMachine.{WakesUnder, IsLocalOptimumUnder, each_c
 use Rattle.tk_descent.specs.declared.descent.Report.{Report}
 use Rattle.tk_descent.specs.declared.gains.Gains as gains
 use Rattle.tk_descent.specs.declared.offer.Offer.{Offer}
-use Rattle.tk_descent.specs.declared.rule.Rule as rules
 use Rattle.tk_descent.specs.Offers.{everything}
 use Rattle.tk_descent.specs.declared.sweep.SweptReport.{SweptReport}
 
@@ -102,27 +101,11 @@ stand store tour waking tests = record {
   flips = store.flip_count tour;
 }
 
--- a descent under a rule, from a tour, its waking cities and gains to those after it
-abbrev pub IsDescentUnder : {S G R : Type 0} → stores.Ghosts S → gains.Ghosts G → rules.Ghosts R → R → NearLists → ℕ →
-    S × Awake × G → S × Awake × G → Report → Type 0
-IsDescentUnder store gains ruling rule near or_segment (tour, waking, made) (tour', waking', made') =
-    DescentUnder (ruling.Fits rule) (ruling.allowed rule)
-    (record { distance = gains.distance made; near = near; or_segment = or_segment })
-    (stand store tour waking (gains.test_count made)) (stand store tour' waking' (gains.test_count made'))
-
 -- a descent of the TSP, from a tour, its waking cities and gains to those after it
 abbrev pub IsDescent : {S G : Type 0} → stores.Ghosts S → gains.Ghosts G → NearLists → ℕ → S × Awake × G →
     S × Awake × G → Report → Type 0
 IsDescent store gains near or_segment (tour, waking, made) (tour', waking', made') =
     Descent (record { distance = gains.distance made; near = near; or_segment = or_segment })
-    (stand store tour waking (gains.test_count made)) (stand store tour' waking' (gains.test_count made'))
-
--- a swept descent under a rule, from a tour, its waking cities and gains to those after it
-abbrev pub IsSweepingUnder : {S G R : Type 0} → stores.Ghosts S → gains.Ghosts G → rules.Ghosts R → R → NearLists → ℕ →
-    S × Awake × G → S × Awake × G → SweptReport → Type 0
-IsSweepingUnder store gains ruling rule near or_segment (tour, waking, made) (tour', waking', made') =
-    SweepingUnder (ruling.Fits rule) (ruling.allowed rule)
-    (record { distance = gains.distance made; near = near; or_segment = or_segment })
     (stand store tour waking (gains.test_count made)) (stand store tour' waking' (gains.test_count made'))
 
 -- a swept descent of the TSP, from a tour, its waking cities and gains to those after it

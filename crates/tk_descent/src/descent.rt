@@ -3,7 +3,7 @@ ghost use Rattle.std.specs.Prelude.{◌≡◌, pos, ◌+◌, ◌*◌, ◌≤◌,
 ghost use Rattle.tk_tour.specs.Tour.{tour_length};
 ghost use Rattle.tk_descent.specs.Offers.{ends, EndsIn};
 ghost use Rattle.tk_descent.specs.Awake.{woken_each};
-ghost use Rattle.tk_descent.specs.Descents.{IsDescent, IsDescentUnder, AreOfSize, saved};
+ghost use Rattle.tk_descent.specs.Descents.{IsDescent, DescentUnder, AreOfSize, saved, stand};
 
 use crate::gains::Gains;
 use crate::making::make;
@@ -60,7 +60,7 @@ fn wake_ends(waking: &mut Waking, offer: &Offer)
 /// no city is awake.
 ///
 /// `or_segment` is the maximum number of cities in the segment of an Or-opt move, and `before` the length of the tour.
-pub fn descend_under<S: TourStore, G: Gains, R: Rule>(
+pub fn descend_under<S: TourStore, G: Gains, R: Rule<S>>(
     tour: &mut S,
     gains: &mut G,
     rule: &R,
@@ -72,9 +72,12 @@ pub fn descend_under<S: TourStore, G: Gains, R: Rule>(
     requires fits { AreOfSize (length (S.cities tour.old)) (G.size_of gains.old) near.now.size waking.old.size }
     requires most { (1 ≤ or_segment) × (or_segment ≤ 3) }
     requires before { before ≡ pos (tour_length (G.distance gains.old) (S.cities tour.old)) }
+    requires suits { R.Suits rule.now tour.old }
     requires tour { R.Fits rule.now (S.cities tour.old) }
-    ensures descent { IsDescentUnder S.TourStore G.Gains R.Rule rule.now near.now or_segment
-        (tour.old, waking.old, gains.old) (tour.new, waking.new, gains.new) result }
+    ensures descent { DescentUnder (R.Fits rule.now) (R.allowed rule.now)
+        (record { distance = G.distance gains.old; near = near.now; or_segment = or_segment })
+        (stand S.TourStore tour.old waking.old (G.test_count gains.old))
+        (stand S.TourStore tour.new waking.new (G.test_count gains.new)) result }
     ensures headline { result.tests
         ≤ 4 * or_segment * near.now.width * (length (S.cities tour.old) + 6 * saved result) }
     ensures flips_only { S.FlipsOnly tour.old tour.new }

@@ -58,13 +58,14 @@ pub trait Gains {
 
     /// The first of these offers with positive gain that the rule allows, and its gain. It tests the offers up to that
     /// one.
-    fn find_in<S: TourStore, R: Rule>(
+    fn find_in<S: TourStore, R: Rule<S>>(
         &mut self,
         tour: &S,
         rule: &R,
         offers: &[Offer],
     ) -> Option<Found>
         requires ends { All (EndsIn (size_of self.old)) offers.now }
+        requires suits { R.Suits rule.now tour.now }
         requires tour { R.Fits rule.now (S.cities tour.now) }
         requires on_tour { All (IsOnTour (S.cities tour.now)) offers.now }
         ensures searched { Searched (distance self.old) (R.allowed rule.now (S.cities tour.now)) offers.now
@@ -86,7 +87,7 @@ pub trait Gains {
 
     /// Looks at a city: its first offer with positive gain that the rule allows, and its gain. It tests the offers up
     /// to that one.
-    fn find_offer<S: TourStore, R: Rule>(
+    fn find_offer<S: TourStore, R: Rule<S>>(
         &mut self,
         tour: &S,
         rule: &R,
@@ -97,6 +98,7 @@ pub trait Gains {
         requires fits { (size_of self.old ≡ length (S.cities tour.now)) × (near.now.size ≡ length (S.cities tour.now)) }
         requires city { IsCity (length (S.cities tour.now)) city }
         requires most { (1 ≤ or_segment) × (or_segment ≤ 3) }
+        requires suits { R.Suits rule.now tour.now }
         requires tour { R.Fits rule.now (S.cities tour.now) }
         ensures searched { Searched (distance self.old) (R.allowed rule.now (S.cities tour.now))
             (offers_at (S.cities tour.now) or_segment near.now city)

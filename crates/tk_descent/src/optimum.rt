@@ -14,7 +14,7 @@ use tk_tour::TourStore;
 /// Whether no city has an offer with positive gain that the rule allows. An offer of a city is a 2-opt move that adds
 /// an edge from the city to one of its near list, or an Or-opt move that does so at an end of its segment. The segment
 /// has at most `or_segment` cities.
-pub fn is_local_optimum_under<S: TourStore, M: Metric, R: Rule>(
+pub fn is_local_optimum_under<S: TourStore, M: Metric, R: Rule<S>>(
     tour: &S,
     metric: &M,
     rule: &R,
@@ -23,6 +23,7 @@ pub fn is_local_optimum_under<S: TourStore, M: Metric, R: Rule>(
 ) -> bool
     requires fits { (M.size_of metric.now ≡ length (S.cities tour.now)) × (near.now.size ≡ length (S.cities tour.now)) }
     requires most { (1 ≤ or_segment) × (or_segment ≤ 3) }
+    requires suits { R.Suits rule.now tour.now }
     requires tour { R.Fits rule.now (S.cities tour.now) }
     ensures { IsTrue result ↔ IsLocalOptimumUnder (R.Fits rule.now) (M.distance metric.now) (near_of near.now)
         or_segment

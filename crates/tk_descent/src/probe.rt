@@ -103,7 +103,7 @@ impl<'a, M: Metric> Gains for Probe<'a, M> {
     }
 
     #[inline]
-    fn find_offer<S: TourStore, R: Rule>(
+    fn find_offer<S: TourStore, R: Rule<S>>(
         &mut self,
         tour: &S,
         rule: &R,

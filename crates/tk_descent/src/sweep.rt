@@ -1,7 +1,7 @@
 //! Swept descents, which end with a local optimum.
 ghost use Rattle.std.specs.Prelude.{◌≡◌, pos, ◌*◌, ◌≤◌, [], length};
 ghost use Rattle.tk_tour.specs.Tour.{tour_length};
-ghost use Rattle.tk_descent.specs.Descents.{IsSweeping, IsSweepingUnder, AreOfSize};
+ghost use Rattle.tk_descent.specs.Descents.{IsSweeping, SweepingUnder, AreOfSize, stand};
 
 use crate::descent::{Report, descend_under};
 use crate::gains::Gains;
@@ -32,7 +32,7 @@ fn put_to_sleep(waking: &mut Waking)
 /// city has an offer with positive gain that the rule allows. It does not matter which cities are awake at the start.
 ///
 /// `or_segment` is the maximum number of cities in the segment of an Or-opt move, and `before` the length of the tour.
-pub fn descend_swept_under<S: TourStore, G: Gains, R: Rule>(
+pub fn descend_swept_under<S: TourStore, G: Gains, R: Rule<S>>(
     tour: &mut S,
     gains: &mut G,
     rule: &R,
@@ -44,9 +44,12 @@ pub fn descend_swept_under<S: TourStore, G: Gains, R: Rule>(
     requires fits { AreOfSize (length (S.cities tour.old)) (G.size_of gains.old) near.now.size waking.old.size }
     requires most { (1 ≤ or_segment) × (or_segment ≤ 3) }
     requires before { before ≡ pos (tour_length (G.distance gains.old) (S.cities tour.old)) }
+    requires suits { R.Suits rule.now tour.old }
     requires tour { R.Fits rule.now (S.cities tour.old) }
-    ensures sweeping { IsSweepingUnder S.TourStore G.Gains R.Rule rule.now near.now or_segment
-        (tour.old, waking.old, gains.old) (tour.new, waking.new, gains.new) result }
+    ensures sweeping { SweepingUnder (R.Fits rule.now) (R.allowed rule.now)
+        (record { distance = G.distance gains.old; near = near.now; or_segment = or_segment })
+        (stand S.TourStore tour.old waking.old (G.test_count gains.old))
+        (stand S.TourStore tour.new waking.new (G.test_count gains.new)) result }
     ensures flips_only { S.FlipsOnly tour.old tour.new }
     ensures stored { length near.now.entries ≡ length (S.cities tour.old) * near.now.width }
     ensures table { (G.distance gains.new ≡ G.distance gains.old) × (G.size_of gains.new ≡ G.size_of gains.old) }

@@ -1,7 +1,7 @@
 -- The next trial, from what the calls of its function ensure.
 use Rattle.std.proofs.Common.{◌≡◌, ℕ, ◌≤◌, length, refl, sym, ◌∙◌, subst}
 use Rattle.rand_core.specs.Stream.{Stream}
-use Rattle.tk_tour.specs.JournalTours.{cities_of, swaps_of}
+use Rattle.tk_rings.specs.LoadedRings.{cities_in, swaps_in}
 use Rattle.tk_tour.specs.declared.store.TourStore.{Ghosts}
 use Rattle.tk_tour.specs.declared.undo.UndoStore as undo
 use Rattle.tk_ring_search.specs.Best.{best_of}
@@ -38,6 +38,7 @@ module _ {S : Type 0} {u : undo.Ghosts S} {s : Ghosts S} where
     asleep = h.asleep;
     steps = h.steps;
     segment = h.segment;
+    demands = h.demands;
     count = h.count;
     settled = h.settled;
     flips = h.flips;
@@ -66,16 +67,16 @@ module _ {S : Type 0} {u : undo.Ghosts S} {s : Ghosts S} where
       subst P (sym es) (subst Q (sym et) h)
 
   pub idle_tried : (size : ℕ) (given : Given) (old : State S u s) (totals : RingTotals) (words rest : Stream)
-      (draws : ℕ) (report : RingTrial) → IsStanding size given old → totals.swaps ≡ swaps_of old.ring →
-      old.totals.swaps ≡ swaps_of old.ring → report.draws ≡ draws → report.outcome ≡ Idle →
+      (draws : ℕ) (report : RingTrial) → IsStanding size given old → totals.swaps ≡ swaps_in old.ring →
+      old.totals.swaps ≡ swaps_in old.ring → report.draws ≡ draws → report.outcome ≡ Idle →
       (report.descent.before ≡ old.cost) × (report.descent.after ≡ old.cost) →
       (report.descent.moves ≡ 0) × (report.descent.looks ≡ 0) × (report.descent.tests ≡ 0)
       × (report.descent.swaps ≡ 0) × (report.passes ≡ 0) →
-      Misses given.capacity given.demands (cities_of old.ring) words draws rest
-      × (draws ≡ most_draws (length (cities_of old.ring))) → draws ≤ 1000 →
+      Misses given.capacity given.demands (cities_in old.ring) words draws rest
+      × (draws ≡ most_draws (length (cities_in old.ring))) → draws ≤ 1000 →
       Tried size given old old totals words rest report
   idle_tried size given old totals words rest draws report h es before ed eo lengths counts missed few =
-      let M : ℕ → Type 0 = λ k. Misses given.capacity given.demands (cities_of old.ring) words k rest in
+      let M : ℕ → Type 0 = λ k. Misses given.capacity given.demands (cities_in old.ring) words k rest in
       record {
         done = idles (record {
           missed = subst M (sym ed) missed.0;
@@ -92,14 +93,14 @@ module _ {S : Type 0} {u : undo.Ghosts S} {s : Ghosts S} where
       }
 
   pub kicked_tried : (size : ℕ) (given : Given) (old made : State S u s) (totals : RingTotals) (words rest : Stream)
-      (draws : ℕ) (kick : Kick) (report : RingTrial) → totals.swaps ≡ swaps_of made.ring → report.draws ≡ draws →
-      IsFirstFit given.capacity given.demands (cities_of old.ring) words draws kick rest →
-      IsKickedDescent (searching given old) kick (swaps_of made.ring) (cities_of made.ring) (best_of made.best) report →
+      (draws : ℕ) (kick : Kick) (report : RingTrial) → totals.swaps ≡ swaps_in made.ring → report.draws ≡ draws →
+      IsFirstFit given.capacity given.demands (cities_in old.ring) words draws kick rest →
+      IsKickedDescent (searching given old) kick (swaps_in made.ring) (cities_in made.ring) (best_of made.best) report →
       made.totals ≡ old.totals → IsStanding size given made → draws ≤ 1000 →
       Tried size given old made totals words rest report
   kicked_tried size given old made totals words rest draws kick report es ed fit descent same h few =
-      let F : ℕ → Type 0 = λ k. IsFirstFit given.capacity given.demands (cities_of old.ring) words k kick rest in
-      let D : ℕ → Type 0 = λ k. IsKickedDescent (searching given old) kick k (cities_of made.ring) (best_of made.best)
+      let F : ℕ → Type 0 = λ k. IsFirstFit given.capacity given.demands (cities_in old.ring) words k kick rest in
+      let D : ℕ → Type 0 = λ k. IsKickedDescent (searching given old) kick k (cities_in made.ring) (best_of made.best)
       report in
       record {
         done = kicks (record { kick = kick; drawn = subst F (sym ed) fit; descent = subst D (sym es) descent });

@@ -12,11 +12,12 @@ use Rattle.tk_descent.specs.EdgeCache.{AreTrueOf}
 use Rattle.tk_descent.specs.declared.sweep.SweptReport.{SweptReport}
 use Rattle.tk_search.specs.Cuts.{kick_swaps}
 use Rattle.tk_tour.specs.Counters.{saturated}
-use Rattle.tk_tour.specs.JournalTours.{cities_of, flips_since, settled_order, slots_of, swaps_of}
+use Rattle.tk_tour.specs.JournalTours.{settled_order, slots_of}
 use Rattle.tk_tour.specs.Reversal.{AreReversed}
 use Rattle.tk_tour.specs.Tour.{SameCycle, tour_length}
 use Rattle.tk_tour.specs.declared.store.TourStore.{Ghosts}
 use Rattle.tk_tour.specs.declared.undo.UndoStore as undo
+use Rattle.tk_rings.specs.LoadedRings.{cities_in, demands_in, flips_in, ring_in, swaps_in}
 use Rattle.tk_ring_search.specs.Best.{best_of}
 use Rattle.tk_ring_search.specs.Descents.{DescendsRing, Fits}
 use Rattle.tk_ring_search.specs.Drawing.{IsFirstFit, Misses, most_draws}
@@ -40,7 +41,7 @@ pub record RingSearching : Type 0 where
 abbrev pub searching : {S : Type 0} → {u : undo.Ghosts S} → {s : Ghosts S} → Given → State S u s → RingSearching
 searching given state = record {
   given = given;
-  ring = cities_of state.ring;
+  ring = cities_in state.ring;
   best = best_of state.best;
   totals = state.totals;
 }
@@ -148,20 +149,21 @@ pub record IsStanding {S : Type 0} {u : undo.Ghosts S} {s : Ghosts S} (size : �
   pub asleep : state.waking.queue ≡ []
   pub steps : AreTrueOf given.distance state.steps
   pub segment : (1 ≤ given.or_segment) × (given.or_segment ≤ 3)
-  pub count : length (cities_of state.ring) ≡ length (best_of state.best)
-  pub settled : settled_order state.ring ≡ cities_of state.ring
-  pub flips : flips_since state.ring ≡ 0
-  pub slots : slots_of state.ring ≡ slots_for (length (best_of state.best))
-  pub fits : Fits given (cities_of state.ring)
+  pub demands : demands_in state.ring ≡ given.demands
+  pub count : length (cities_in state.ring) ≡ length (best_of state.best)
+  pub settled : settled_order (ring_in state.ring) ≡ cities_in state.ring
+  pub flips : flips_in state.ring ≡ 0
+  pub slots : slots_of (ring_in state.ring) ≡ slots_for (length (best_of state.best))
+  pub fits : Fits given (cities_in state.ring)
   pub best_fits : Fits given (best_of state.best)
-  pub cost : state.cost ≡ pos (tour_length given.distance (cities_of state.ring))
+  pub cost : state.cost ≡ pos (tour_length given.distance (cities_in state.ring))
   pub shortest : state.shortest ≡ pos (tour_length given.distance (best_of state.best))
 
 -- the invariant between two trials
 pub record IsSearching {S : Type 0} {u : undo.Ghosts S} {s : Ghosts S} (size : ℕ) (given : Given)
     (state : State S u s) : Type 0 where
   pub stands : IsStanding size given state
-  pub swaps : state.totals.swaps ≡ swaps_of state.ring
+  pub swaps : state.totals.swaps ≡ swaps_in state.ring
   pub countable : IsCountable state.totals
 
 -- the invariant is a proposition, so that a search can have it as a ghost field

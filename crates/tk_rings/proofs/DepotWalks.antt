@@ -1,18 +1,18 @@
 -- A walk along a path, up to a copy of the depot.
-use Rattle.std.proofs.Common.{◌≡◌, ℕ, ◌+◌, ◌≤◌, ◌<◌, Bool, true, false, cond, not, List, [], ◌∷◌, ◌++◌, length}
-use Rattle.std.proofs.Common.{refl, sym, ◌∙◌, ap, arith, subst, append_assoc, length-append, reverse}
+use Rattle.std.proofs.Common.{◌≡◌, ℕ, ◌+◌, Bool, true, false, cond, not, List, [], ◌∷◌, ◌++◌}
+use Rattle.std.proofs.Common.{refl, sym, ◌∙◌, ap, arith, subst, append_assoc, reverse}
 use Rattle.std.proofs.lemmas.Bool.{both_ways}
-use Rattle.std.proofs.lemmas.List.{length-reverse, reverse-append, reverse-reverse}
+use Rattle.std.proofs.lemmas.List.{reverse-append, reverse-reverse}
 use Rattle.tk_distance.specs.Holding.{holds, IsDistinct}
 use Rattle.tk_tour.specs.Tour.{IsRotation}
 use Rattle.tk_descent.proofs.MovesOnTours.Paths.{Spans, last_from}
 use Rattle.tk_descent.proofs.MovesOnTours.Length.{last_from-append, Spans-reverse}
-use Rattle.tk_descent.proofs.MovesOnTours.Steps.{distinct-parts, distinct-reverse, distinct-rotation, length-rotation}
+use Rattle.tk_descent.proofs.MovesOnTours.Steps.{distinct-parts, distinct-reverse, distinct-rotation}
 use Rattle.tk_descent.proofs.MovesOnTours.Steps.{holds-last, turned, rotation-trans, rotation-reverse}
 use Rattle.tk_descent.proofs.MovesOnTours.Views.{path_of, spans_of}
 use Rattle.tk_descent.proofs.OfferLists.Ways.{step_in, ways_on, ways_back, last_same}
 use Rattle.tk_rings.specs.Capacities.{demand_in, is_copy, loads_of, way, step_on}
-use Rattle.tk_rings.specs.Loads.{HasLoads, IsLoadAhead}
+use Rattle.tk_rings.specs.Loads.{HasLoads}
 use Rattle.tk_rings.specs.Rings.{whole, copy, join, turned as turned_stretch}
 use Rattle.tk_rings.specs.Walking.{back}
 use Rattle.tk_rings.specs.StretchLaws.{View, one, more, view, st-append, st-reverse}
@@ -20,20 +20,15 @@ use Rattle.tk_rings.specs.declared.stretch.Stretch.{Stretch}
 use Rattle.tk_rings.specs.declared.walk.Walk.{Walk}
 
 -- a path whose part before c has no copy of the depot
-pub record Walked (q : ℕ) (demands path : List ℕ) (c k load : ℕ) : Type 0 where
+pub record Walked (q : ℕ) (demands path : List ℕ) (c load : ℕ) : Type 0 where
   pub done : List ℕ
   pub left : List ℕ
   pub cut : path ≡ done ++ c ∷ left
-  pub count : length done ≡ k
   pub plain : loads_of q demands done ≡ whole load
 
 way_distinct : (forward : Bool) (C : List ℕ) → IsDistinct C → IsDistinct (way forward C)
 way_distinct true C d = d
 way_distinct false C d = distinct-reverse C d
-
-way_length : (forward : Bool) (C : List ℕ) → length (way forward C) ≡ length C
-way_length true C = refl
-way_length false C = length-reverse C
 
 step_way : (forward : Bool) (C us vs : List ℕ) (x c : ℕ) → IsDistinct C →
     IsRotation (way forward C) (us ++ x ∷ c ∷ vs) → step_on forward C x ≡ c
@@ -41,10 +36,10 @@ step_way true C us vs x c d r = step_in (ways_on C d) us vs x c r
 step_way false C us vs x c d r = step_in (ways_back C d) us vs x c r
 
 module _ (q : ℕ) (demands : List ℕ) where
-  begins : (path : List ℕ) (from to : ℕ) → Spans path from to → Walked q demands path from 0 0
+  begins : (path : List ℕ) (from to : ℕ) → Spans path from to → Walked q demands path from 0
   begins [] from to s = absurd s
   begins (b ∷ path) from to s =
-      record { done = []; left = path; cut = ap (λ z. z ∷ path) s.0; count = refl; plain = refl }
+      record { done = []; left = path; cut = ap (λ z. z ∷ path) s.0; plain = refl }
 
   loads_one : (c : ℕ) (b : Bool) → is_copy demands c ≡ b →
       loads_of q demands (c ∷ []) ≡ join q (cond b copy (whole (demand_in demands c))) (whole 0)
@@ -57,18 +52,18 @@ module _ (q : ℕ) (demands : List ℕ) where
       ∙ ap (λ z. join q z (loads_of q demands (c ∷ []))) h ∙ ap (join q (whole load)) (loads_one c false e)
       ∙ ap whole (omega arith)
 
-  module _ (forward : Bool) (C path rest : List ℕ) (from to c k load : ℕ) (dis : IsDistinct C)
+  module _ (forward : Bool) (C path rest : List ℕ) (from to c load : ℕ) (dis : IsDistinct C)
       (rot : IsRotation (way forward C) (path ++ rest)) (s : Spans path from to)
-      (w : Walked q demands path c k load) where
+      (w : Walked q demands path c load) where
     whole_is : (left : List ℕ) → w.left ≡ left → path ++ rest ≡ w.done ++ c ∷ (left ++ rest)
     whole_is left e = ap (λ z. z ++ rest) (w.cut ∙ ap (λ z. w.done ++ c ∷ z) e)
         ∙ append_assoc w.done (c ∷ left) rest
 
     walks_on : (load' : ℕ) → is_copy demands c ≡ false → (c ≡ to → ⊥) → load' ≡ load + demand_in demands c →
-        Walked q demands path (step_on forward C c) (k + 1) load'
+        Walked q demands path (step_on forward C c) load'
     walks_on load' plain ne same = on w.left refl
       where
-        on : (left : List ℕ) → w.left ≡ left → Walked q demands path (step_on forward C c) (k + 1) load'
+        on : (left : List ℕ) → w.left ≡ left → Walked q demands path (step_on forward C c) load'
         on [] e =
             absurd (ne (sym (last_same w.done c from to
             (subst (λ z. Spans z from to) (w.cut ∙ ap (λ z. w.done ++ c ∷ z) e) s))))
@@ -81,7 +76,6 @@ module _ (q : ℕ) (demands : List ℕ) where
               left = left;
               cut = w.cut ∙ ap (λ v. w.done ++ c ∷ v) e ∙ sym (append_assoc w.done (c ∷ []) (z ∷ left))
                   ∙ ap (λ v. (w.done ++ c ∷ []) ++ v ∷ left) (sym n);
-              count = omega (arith, length-append w.done (c ∷ []), w.count);
               plain = plain_more w.done c load w.plain plain ∙ ap whole (sym same);
             }
 
@@ -103,25 +97,6 @@ module _ (q : ℕ) (demands : List ℕ) where
         (ap (λ b. join q (cond b copy (whole (demand_in demands c))) (loads_of q demands w.left)) e) in
         let a = after_copy (view q (demand_in demands) (is_copy demands) w.left) in
         (ap (λ z. z.head) same ∙ a.0, ap (λ z. z.parted) same ∙ a.1)
-
-    grows : {t : Stretch} → View t → (l d : ℕ) → l + d ≤ (join q (whole l) (join q (whole d) t)).head
-    grows (one a) l d = omega arith
-    grows (more h i t) l d = omega arith
-
-    -- the load so far is not more than that before the first copy
-    at_least : (load' : ℕ) → is_copy demands c ≡ false → load' ≡ load + demand_in demands c →
-        load' ≤ (loads_of q demands path).head
-    at_least load' plain same =
-        let cut : loads_of q demands path
-        ≡ join q (whole load) (join q (whole (demand_in demands c)) (loads_of q demands w.left)) =
-        loads_cut ∙ ap (join q (whole load))
-        (ap (λ b. join q (cond b copy (whole (demand_in demands c))) (loads_of q demands w.left)) plain) in
-        omega (
-          arith,
-          same,
-          ap (λ z. z.head) cut,
-          grows (view q (demand_in demands) (is_copy demands) w.left) load (demand_in demands c),
-        )
 
     last_of : (us : List ℕ) (x z : ℕ) (vs : List ℕ) → Spans (us ++ x ∷ z ∷ vs) from to → last_from z vs ≡ to
     last_of [] x z vs h = h.1
@@ -149,19 +124,6 @@ module _ (q : ℕ) (demands : List ℕ) where
             absurd (both_ways (holds (z ∷ left) c) free
             (subst (λ v. holds (z ∷ left) v ≡ true) (sym last)
             (holds-last (z ∷ left) z to (refl, last_of w.done c z left s2))))
-
-    too_long : k ≡ length C → ⊥
-    too_long e =
-        omega (
-          arith,
-          e,
-          w.count,
-          ap length w.cut,
-          length-append w.done (c ∷ w.left),
-          length-append path rest,
-          length-rotation (way forward C) (path ++ rest) rot,
-          way_length forward C,
-        )
 
 -- the way back
 turn_way : (forward : Bool) (C path rest : List ℕ) → IsRotation (way forward C) (path ++ rest) →
@@ -194,49 +156,37 @@ loads_back q demands C walk s h other e =
 pub view_loads : (q : ℕ) (demands C : List ℕ) (walk : Walk) (s : Stretch) → HasLoads q demands C walk s → View s
 view_loads q demands C walk s h = subst View (sym h.loads) (view q (demand_in demands) (is_copy demands) h.path)
 
--- a walk on the path of a stretch: what is found at a copy, above `most`, and at the last element
+-- the load before the first copy, and whether there is one
+abbrev pub Found : Stretch → ℕ → Bool → Type 0
+Found s load parted = (s.head ≡ load) × (s.parted ≡ parted)
+
+-- a walk on the path of a stretch: what is found at a copy, and at the last element
 module _ (q : ℕ) (demands C : List ℕ) (walk : Walk) (s : Stretch) (h : HasLoads q demands C walk s) (dis : IsDistinct C)
-    (c k load : ℕ) (w : Walked q demands h.path c k load) (most : ℕ) where
+    (c load : ℕ) (w : Walked q demands h.path c load) where
   ends : Spans h.path walk.from walk.to
   ends = spans_of h.path walk.from walk.to h.ends
 
-  exactly : (found : ℕ) (p : Bool) → ((loads_of q demands h.path).head ≡ found)
-      × ((loads_of q demands h.path).parted ≡ p) → IsLoadAhead most s found p
-  exactly found p e = record {
-    within = λ le. (ap (λ z. z.head) h.loads ∙ e.0, ap (λ z. z.parted) h.loads ∙ e.1);
-    beyond = λ lt. omega (arith, ap (λ z. z.head) h.loads, e.0, lt);
-  }
+  by_loads : (found : ℕ) (p : Bool) → Found (loads_of q demands h.path) found p → Found s found p
+  by_loads found p e = (ap (λ z. z.head) h.loads ∙ e.0, ap (λ z. z.parted) h.loads ∙ e.1)
 
-  pub copy_ahead : is_copy demands c ≡ true → IsLoadAhead most s load true
+  pub copy_ahead : is_copy demands c ≡ true → Found s load true
   copy_ahead e =
-      exactly load true
-      (ends_at_copy q demands walk.forward C h.path h.rest walk.from walk.to c k load dis h.on ends w e)
+      by_loads load true
+      (ends_at_copy q demands walk.forward C h.path h.rest walk.from walk.to c load dis h.on ends w e)
 
   pub last_ahead : (found : ℕ) → is_copy demands c ≡ false → c ≡ walk.to → found ≡ load + demand_in demands c →
-      IsLoadAhead most s found false
+      Found s found false
   last_ahead found e last sum =
-      exactly found false
-      (ends_at_last q demands walk.forward C h.path h.rest walk.from walk.to c k load dis h.on ends w found e last sum)
-
-  pub over_ahead : (found : ℕ) → is_copy demands c ≡ false → found ≡ load + demand_in demands c → most < found →
-      IsLoadAhead most s found false
-  over_ahead found e sum over =
-      let le = at_least q demands walk.forward C h.path h.rest walk.from walk.to c k load dis h.on ends w found e sum in
-      record {
-        within = λ at. absurd (omega (arith, at, over));
-        beyond = λ lt. omega (arith, ap (λ z. z.head) h.loads, over, le);
-      }
+      by_loads found false
+      (ends_at_last q demands walk.forward C h.path h.rest walk.from walk.to c load dis h.on ends w found e last sum)
 
   pub goes_on : (found : ℕ) → is_copy demands c ≡ false → (c ≡ walk.to → ⊥) → found ≡ load + demand_in demands c →
-      Walked q demands h.path (step_on walk.forward C c) (k + 1) found
+      Walked q demands h.path (step_on walk.forward C c) found
   goes_on found e ne sum =
-      walks_on q demands walk.forward C h.path h.rest walk.from walk.to c k load dis h.on ends w found e ne sum
-
-  pub not_all : k ≡ length C → ⊥
-  not_all e = too_long q demands walk.forward C h.path h.rest walk.from walk.to c k load dis h.on ends w e
+      walks_on q demands walk.forward C h.path h.rest walk.from walk.to c load dis h.on ends w found e ne sum
 
 pub begins_walk : (q : ℕ) (demands C : List ℕ) (walk : Walk) (s : Stretch) (h : HasLoads q demands C walk s) →
-    Walked q demands h.path walk.from 0 0
+    Walked q demands h.path walk.from 0
 begins_walk q demands C walk s h = begins q demands h.path walk.from walk.to (spans_of h.path walk.from walk.to h.ends)
 
 -- a stretch whose routes fit, by its two loads

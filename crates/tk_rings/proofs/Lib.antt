@@ -6,3 +6,8 @@ pub mod RingPaths
 pub mod RingsMade
 pub mod RoutesRead
 pub mod DepotWalks
+pub mod SumsAlong
+pub mod SumsFilled
+pub mod SumsReversed
+pub mod SpannedWalks
+pub mod SpanSums

@@ -2,7 +2,7 @@
 use Rattle.std.proofs.Common.{◌≡◌, ℕ, ◌+◌, ◌-◌, ◌≤◌, ◌<◌, Bool, true, false, ◌&&◌, leb, refl, sym, ◌∙◌, ap, arith, inl}
 use Rattle.std.proofs.Common.{inr}
 use Rattle.std.proofs.lemmas.Bool.{leb-true, leb-false, le-leb, lt-leb}
-use Rattle.tk_rings.specs.Loads.{IsLoadAhead, WasClosed}
+use Rattle.tk_rings.specs.Loads.{WasClosed}
 use Rattle.tk_rings.specs.Rings.{whole, join, turned, is_closed}
 use Rattle.tk_rings.specs.StretchLaws.{View, one, more, view-join, flags, and_head, and_tail}
 use Rattle.tk_rings.specs.declared.stretch.Stretch.{Stretch}
@@ -34,15 +34,19 @@ from_test {P} a b at_most above = on (leb a b) refl
     on false e = above (leb-false a b e)
 
 -- a load that two walks find together, the second with the room that the first leaves
-pub sum_fits : (room first second : ℕ) (s t : Stretch) (p r : Bool) → IsLoadAhead room s first p → first ≤ room →
-    IsLoadAhead (room - first) t second r → leb second (room - first) ≡ leb (s.head + t.head) room
-sum_fits room first second s t p r found le found_two =
-    let here = (found.within le).0 in
+pub sums_fit : (room first second : ℕ) (s t : Stretch) → s.head ≡ first → t.head ≡ second → first ≤ room →
+    leb second (room - first) ≡ leb (s.head + t.head) room
+sums_fit room first second s t head_one head_two le =
     from_test second (room - first)
-    (λ at. le-leb second (room - first) at
-    ∙ sym (le-leb (s.head + t.head) room (omega (arith, here, le, at, (found_two.within at).0))))
+    (λ at. le-leb second (room - first) at ∙ sym (le-leb (s.head + t.head) room (omega (
+      arith,
+      head_one,
+      head_two,
+      le,
+      at,
+    ))))
     (λ over. lt-leb second (room - first) over
-    ∙ sym (lt-leb (s.head + t.head) room (omega (arith, here, le, found_two.beyond over))))
+    ∙ sym (lt-leb (s.head + t.head) room (omega (arith, head_one, head_two, le, over))))
 
 pub second_of : (a b c : Bool) → a ≡ true → (a && b) ≡ c → b ≡ c
 second_of true b c h k = k

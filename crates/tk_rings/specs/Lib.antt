@@ -1,8 +1,10 @@
 pub mod After
 pub mod AfterLaws
 pub mod Capacities
+pub mod LoadedRings
 pub mod Loads
 pub mod RingRoutes
 pub mod Rings
 pub mod StretchLaws
+pub mod Sums
 pub mod Walking

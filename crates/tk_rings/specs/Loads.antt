@@ -1,8 +1,7 @@
--- What walks along a ring find out about its loads.
+-- The loads of paths of a ring.
 --     HasLoads q demands ring walk s      the path of a walk has these loads
---     IsLoadAhead most s load parted      the load before the first copy of the depot, unless it is more than most
 --     WasClosed q s a r      the ring of three stretches fits
-use Rattle.std.specs.Prelude.{◌≡◌, ℕ, ◌<◌, ◌≤◌, Bool, true, List, ◌++◌, ◌⊎◌}
+use Rattle.std.specs.Prelude.{◌≡◌, ℕ, Bool, true, List, ◌++◌, ◌⊎◌}
 use Rattle.tk_tour.specs.Tour.{IsPath, IsRotation}
 use Rattle.tk_rings.specs.Capacities.{loads_of, way}
 use Rattle.tk_rings.specs.Rings.{is_closed, join, turned}
@@ -22,11 +21,6 @@ abbrev pub AreLoadsOf : ℕ → List ℕ → List ℕ → ℕ → ℕ → Bool �
 AreLoadsOf q demands ring from to forward s =
     (path rest : List ℕ) → IsRotation (way forward ring) (path ++ rest) → IsPath from path to →
     s ≡ loads_of q demands path
-
--- the load before the first copy of the depot, and whether there is one; or a load above `most`, if it is more
-pub record IsLoadAhead (most : ℕ) (s : Stretch) (load : ℕ) (parted : Bool) : Type 0 where
-  pub within : load ≤ most → (s.head ≡ load) × (s.parted ≡ parted)
-  pub beyond : most < load → most < s.head
 
 -- the ring of a segment, or of the segment turned round, and two stretches fits
 abbrev pub WasClosed : ℕ → Stretch → Stretch → Stretch → Type 0

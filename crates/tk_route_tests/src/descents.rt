@@ -3,6 +3,7 @@ ghost use Rattle.std.specs.Prelude.{◌≡◌, ◌≤◌, ◌<◌, length, pos};
 ghost use Rattle.tk_lists.specs.Solution.{lists_of};
 ghost use Rattle.tk_problem.specs.declared.limits.TheConstants.{CITY_LIMIT};
 ghost use Rattle.tk_rings.specs.Capacities.{IsFitting};
+ghost use Rattle.tk_rings.specs.LoadedRings.{cities_in, demands_in};
 ghost use Rattle.tk_rings.specs.RingRoutes.{demands_of};
 ghost use Rattle.tk_routes.specs.Cvrps.{instance_of};
 ghost use Rattle.tk_routes.specs.Instance.{customer_count};
@@ -15,10 +16,10 @@ use std::process::Abort;
 use tk_descent::{Probe, Report, Waking};
 use tk_distance::{Metric, Sub};
 use tk_near::near_scan;
-use tk_rings::{Capacity, descend_ring, ring_demands, ring_nodes, ring_of};
+use tk_rings::{Capacity, LoadedRing, descend_ring, ring_demands, ring_nodes, ring_of};
 use tk_routes::Cvrp;
 use tk_text::{Problem, SolText};
-use tk_tour::{ArrayTour, TourStore, length};
+use tk_tour::{ArrayTour, UndoStore, length};
 
 /// Two customers on one side of the depot, with a capacity of 2.
 const ONE_SIDE: &[u8] =
@@ -108,6 +109,9 @@ static ROWS: [Row<'static>; 6] = [
     },
 ];
 
+/// The number of flips that a ring can undo.
+const SLOTS: u32 = 100;
+
 /// The length of a ring.
 fn length_of<M: Metric>(metric: &M, ring: &[u32]) -> i64
     requires size { M.size_of metric.now ≡ length ring.now }
@@ -119,19 +123,20 @@ fn length_of<M: Metric>(metric: &M, ring: &[u32]) -> i64
 }
 
 /// Makes a descent of a ring with all elements awake.
-fn descend_awake<S: TourStore, M: Metric>(
+fn descend_awake<S: UndoStore, M: Metric>(
     rt: &impl Abort,
     alloc: Global,
     metric: &M,
     vehicles: &Capacity<'_>,
-    ring: &mut S,
+    ring: &mut LoadedRing<'_, S>,
     before: i64,
 ) -> Report
-    requires size { M.size_of metric.now ≡ length (S.cities ring.old) }
-    requires before { before ≡ pos (tour_length (M.distance metric.now) (S.cities ring.old)) }
-    requires fits { IsFitting vehicles.now.capacity vehicles.now.demands.now (S.cities ring.old) }
-    ensures fits { IsFitting vehicles.now.capacity vehicles.now.demands.now (S.cities ring.new) }
-    ensures ring { IsTour (length (S.cities ring.old)) (S.cities ring.new) }
+    requires size { M.size_of metric.now ≡ length (cities_in ring.old) }
+    requires before { before ≡ pos (tour_length (M.distance metric.now) (cities_in ring.old)) }
+    requires suits { demands_in ring.old ≡ vehicles.now.demands.now }
+    requires fits { IsFitting vehicles.now.capacity vehicles.now.demands.now (cities_in ring.old) }
+    ensures fits { IsFitting vehicles.now.capacity vehicles.now.demands.now (cities_in ring.new) }
+    ensures ring { IsTour (length (cities_in ring.old)) (cities_in ring.new) }
 {
     let n = metric.size();
     let near = near_scan(alloc, metric, (n - 1).min(100)).expect(rt, "memory for near lists");
@@ -166,13 +171,17 @@ fn expect_descent<M: Metric>(
         × (vehicles.now.demands.now ≡ demands_of (instance_of cvrp.now)) }
     requires fits { IsFitting vehicles.now.capacity vehicles.now.demands.now ring.now }
 {
-    let mut tour = ArrayTour::from_list(alloc, ring).expect(rt, "a ring");
+    let tour = ArrayTour::from_list(alloc, ring).expect(rt, "a ring");
     let before = length_of(metric, ring);
-    let report = descend_awake(rt, alloc, metric, vehicles, &mut tour, before);
+    let mut loaded = LoadedRing::new(alloc, tour, SLOTS, vehicles.demands).expect(
+        rt,
+        "memory for a ring",
+    );
+    let report = descend_awake(rt, alloc, metric, vehicles, &mut loaded, before);
     expect(rt, report.before == row.costs[0]);
     expect(rt, report.after == row.costs[1]);
     expect(rt, report.moves == row.moves);
-    expect_back(rt, alloc, cvrp, tour.order(), row.end);
+    expect_back(rt, alloc, cvrp, loaded.tour().order(), row.end);
 }
 
 /// Checks a descent of the ring of routes.

@@ -1,8 +1,8 @@
 //! Kicks of a small ring, worked by hand. Two vehicles carry three customers each.
 ghost use Rattle.std.specs.Prelude.{◌≡◌, length};
 ghost use Rattle.tk_rings.specs.Capacities.{IsFitting};
+ghost use Rattle.tk_rings.specs.LoadedRings.{cities_in, demands_in};
 ghost use Rattle.tk_ring_search.specs.Kicks.{IsKick};
-ghost use Rattle.tk_tour.specs.ArrayTours.{order_of};
 
 use crate::given::{expect, expect_list};
 use crate::line::{DEMANDS, ring_of};
@@ -11,9 +11,9 @@ use rand_pcg::Pcg32;
 use std::alloc::Global;
 use std::process::Abort;
 use tk_ring_search::{Kick, draw_fitting};
-use tk_rings::Capacity;
+use tk_rings::{Capacity, LoadedRing};
 use tk_search::Cuts;
-use tk_tour::{ArrayTour, TourStore};
+use tk_tour::{ArrayTour, UndoStore};
 
 // A kick of the ring 7 1 2 3 8 4 5 6 9, whether the ring fits after it, and the ring then, in its canonical form.
 struct Row {
@@ -69,11 +69,13 @@ fn vans() -> Capacity<'static>
 }
 
 // The ring of the routes 1 2 3 and 4 5 6.
-fn two_routes(rt: &impl Abort, alloc: Global) -> ArrayTour
-    ensures size { length (order_of result) ≡ 9 }
-    ensures fits { IsFitting 3 DEMANDS (order_of result) }
+fn two_routes(rt: &impl Abort, alloc: Global) -> LoadedRing<'static, ArrayTour>
+    ensures size { length (cities_in result) ≡ 9 }
+    ensures demands { demands_in result ≡ DEMANDS }
+    ensures fits { IsFitting 3 DEMANDS (cities_in result) }
 {
-    ring_of(rt, alloc, &[7, 1, 2, 3, 8, 4, 5, 6, 9])
+    let ring = ring_of(rt, alloc, &[7, 1, 2, 3, 8, 4, 5, 6, 9]);
+    LoadedRing::new(alloc, ring, 0, &DEMANDS).expect(rt, "memory for a ring")
 }
 
 // A kick of nine elements.
@@ -97,9 +99,15 @@ fn kick_of(rt: &impl Abort, first: u32, cuts: [u32; 3]) -> Kick
 }
 
 // Makes the kick of a row, and checks its ends, and whether the ring fits after it.
-fn expect_kick<S: TourStore>(rt: &impl Abort, ring: &mut S, vehicles: &Capacity<'_>, row: &Row)
-    requires size { length (S.cities ring.old) ≡ 9 }
-    requires fits { IsFitting vehicles.now.capacity vehicles.now.demands.now (S.cities ring.old) }
+fn expect_kick<S: UndoStore>(
+    rt: &impl Abort,
+    ring: &mut LoadedRing<'_, S>,
+    vehicles: &Capacity<'_>,
+    row: &Row,
+)
+    requires size { length (cities_in ring.old) ≡ 9 }
+    requires suits { demands_in ring.old ≡ vehicles.now.demands.now }
+    requires fits { IsFitting vehicles.now.capacity vehicles.now.demands.now (cities_in ring.old) }
 {
     let kick = kick_of(rt, row.first, row.cuts);
     expect_list(rt, &kick.ends(ring), &row.ends);
@@ -116,7 +124,7 @@ fn expect_printed(rt: &impl Abort, alloc: Global, ring: &ArrayTour, want: &[u32]
 fn expect_row(rt: &impl Abort, alloc: Global, row: &Row) {
     let mut ring = two_routes(rt, alloc);
     expect_kick(rt, &mut ring, &vans(), row);
-    expect_printed(rt, alloc, &ring, &row.kicked);
+    expect_printed(rt, alloc, ring.tour(), &row.kicked);
 }
 
 #[test]
@@ -127,9 +135,14 @@ fn kicks_fit_or_not(rt: HostRuntime) {
 }
 
 // Checks that the last kick that is drawn, and no other, is one after which the ring fits.
-fn expect_last_fits<S: TourStore>(rt: &impl Abort, ring: &S, vehicles: &Capacity<'_>)
-    requires size { length (S.cities ring.now) ≡ 9 }
-    requires fits { IsFitting vehicles.now.capacity vehicles.now.demands.now (S.cities ring.now) }
+fn expect_last_fits<S: UndoStore>(
+    rt: &impl Abort,
+    ring: &LoadedRing<'_, S>,
+    vehicles: &Capacity<'_>,
+)
+    requires size { length (cities_in ring.now) ≡ 9 }
+    requires suits { demands_in ring.now ≡ vehicles.now.demands.now }
+    requires fits { IsFitting vehicles.now.capacity vehicles.now.demands.now (cities_in ring.now) }
 {
     let drawn = draw_fitting(ring, vehicles, &mut Pcg32::seed_from_u64(1));
     let mut rng = Pcg32::seed_from_u64(1);

@@ -1,6 +1,7 @@
 //! Worked examples of stretches.
 ghost use Rattle.tk_lists.specs.Solution.{lists_of};
 ghost use Rattle.tk_rings.specs.Capacities.{IsFitting};
+ghost use Rattle.tk_rings.specs.LoadedRings.{cities_in, demands_in};
 ghost use Rattle.tk_rings.specs.Rings.{IsLight};
 ghost use Rattle.tk_routes.specs.Cvrps.{instance_of};
 ghost use Rattle.tk_routes.specs.Routes.{AreRoutes};
@@ -8,10 +9,10 @@ ghost use Rattle.tk_routes.specs.Routes.{AreRoutes};
 use crate::given::{TWO_SIDES, claim, cvrp_of, expect, expect_valid, problem_of};
 use std::alloc::Global;
 use std::process::Abort;
-use tk_rings::{Capacity, Stretch, ring_demands, ring_of};
+use tk_rings::{Capacity, LoadedRing, Stretch, ring_demands, ring_of};
 use tk_routes::Cvrp;
 use tk_text::{Problem, SolText};
-use tk_tour::{ArrayTour, TourStore};
+use tk_tour::{ArrayTour, TourStore, UndoStore};
 
 /// Whether a stretch contains a copy of the depot, the load before its first copy and after its last, and whether the
 /// routes between two copies fit.
@@ -85,13 +86,13 @@ fn stretch_of(rt: &impl Abort, loads: Loads) -> Stretch
 }
 
 /// Checks the stretch from an element of a ring to another one.
-fn expect_stretch<S: TourStore>(
+fn expect_stretch<S: UndoStore>(
     rt: &impl Abort,
     vehicles: &Capacity<'_>,
-    ring: &S,
+    ring: &LoadedRing<'_, S>,
     row: (u32, u32, bool, Loads),
 )
-    requires { IsFitting vehicles.now.capacity vehicles.now.demands.now (S.cities ring.now) }
+    requires { IsFitting vehicles.now.capacity (demands_in ring.now) (cities_in ring.now) }
 {
     let (from, to, forward, loads) = row;
     let n = ring.size();
@@ -112,12 +113,13 @@ fn expect_stretches(rt: &impl Abort, alloc: Global, cvrp: &Cvrp<'_>, routes: &[V
     let ring = ring_of(alloc, cvrp, routes).expect(rt, "memory for a ring");
     let tour = ArrayTour::from_list(alloc, &ring).expect(rt, "a ring");
     let demands = ring_demands(alloc, cvrp).expect(rt, "memory for demands");
+    let loaded = LoadedRing::new(alloc, tour, 0, &demands).expect(rt, "memory for a ring");
     let vehicles = Capacity {
         demands: &demands,
         capacity: cvrp.capacity() as u64,
     };
     for row in &STRETCHES {
-        expect_stretch(rt, &vehicles, &tour, *row);
+        expect_stretch(rt, &vehicles, &loaded, *row);
     }
 }
 

@@ -25,7 +25,7 @@ use tk_tour::TourStore;
 /// Tests a 2-opt offer. Its gain is `margin` minus the length of the new edge b-d. If it is positive, the rule is asked
 /// whether the offer is allowed.
 #[inline(always)]
-fn try_two<S: TourStore, M: Metric, R: Rule>(
+fn try_two<S: TourStore, M: Metric, R: Rule<S>>(
     tour: &S,
     metric: &M,
     rule: &R,
@@ -36,6 +36,7 @@ fn try_two<S: TourStore, M: Metric, R: Rule>(
     d: u32,
     margin: i64,
 ) -> Option<Found>
+    requires suits { R.Suits rule.now tour.now }
     requires fits { R.Fits rule.now (S.cities tour.now) }
     requires on_tour { IsOnTour (S.cities tour.now) (Two a b c d) }
     requires cities { EndsIn (M.size_of metric.now) (Two a b c d) }
@@ -61,7 +62,7 @@ fn try_two<S: TourStore, M: Metric, R: Rule>(
 /// minus the length of the new edge from the last city of the segment to w. If it is positive, the rule is asked
 /// whether the offer is allowed.
 #[inline(always)]
-fn try_or<S: TourStore, M: Metric, R: Rule>(
+fn try_or<S: TourStore, M: Metric, R: Rule<S>>(
     tour: &S,
     metric: &M,
     rule: &R,
@@ -72,6 +73,7 @@ fn try_or<S: TourStore, M: Metric, R: Rule>(
     w: u32,
     margin: i64,
 ) -> Option<Found>
+    requires suits { R.Suits rule.now tour.now }
     requires fits { R.Fits rule.now (S.cities tour.now) }
     requires on_tour { Each (IsOnTour (S.cities tour.now)) (or_offer x y segment.now w) }
     requires cities { IsCity (M.size_of metric.now) segment.now.last × IsCity (M.size_of metric.now) w }
@@ -120,7 +122,7 @@ fn margin_of<M: Metric>(
 /// Tests the Or-opt offers of a segment from x between y and each of its neighbours. The distance from x to y is
 /// `across`.
 #[inline(always)]
-fn try_piece<S: TourStore, M: Metric, R: Rule>(
+fn try_piece<S: TourStore, M: Metric, R: Rule<S>>(
     tour: &S,
     metric: &M,
     rule: &R,
@@ -130,6 +132,7 @@ fn try_piece<S: TourStore, M: Metric, R: Rule>(
     y: &CityWithNeighbours,
     across: i64,
 ) -> Option<Found>
+    requires suits { R.Suits rule.now tour.now }
     requires fits { R.Fits rule.now (S.cities tour.now) }
     requires on_tour { Each (IsOnTour (S.cities tour.now)) (piece_offers x y.now piece.now) }
     requires piece { IsRemovedSegment (M.size_of metric.now) (M.distance metric.now) x piece.now }
@@ -168,7 +171,7 @@ fn try_piece<S: TourStore, M: Metric, R: Rule>(
 
 /// Tests the Or-opt offers of segments from x between y and each of its neighbours.
 #[inline(always)]
-fn try_segments<S: TourStore, M: Metric, R: Rule>(
+fn try_segments<S: TourStore, M: Metric, R: Rule<S>>(
     tour: &S,
     metric: &M,
     rule: &R,
@@ -178,6 +181,7 @@ fn try_segments<S: TourStore, M: Metric, R: Rule>(
     y: &CityWithNeighbours,
     across: i64,
 ) -> Option<Found>
+    requires suits { R.Suits rule.now tour.now }
     requires fits { R.Fits rule.now (S.cities tour.now) }
     requires on_tour { Each (IsOnTour (S.cities tour.now)) (flat_map (piece_offers x y.now) pieces.now) }
     requires pieces { All (IsRemovedSegment (M.size_of metric.now) (M.distance metric.now) x) pieces.now }
@@ -197,7 +201,7 @@ fn try_segments<S: TourStore, M: Metric, R: Rule>(
 
 /// Tests the offers of x with y.
 #[inline(always)]
-fn try_city<S: TourStore, M: Metric, R: Rule>(
+fn try_city<S: TourStore, M: Metric, R: Rule<S>>(
     tour: &S,
     metric: &M,
     rule: &R,
@@ -206,6 +210,7 @@ fn try_city<S: TourStore, M: Metric, R: Rule>(
     pieces: &[RemovedSegment],
     y: &CityWithNeighbours,
 ) -> Option<Found>
+    requires suits { R.Suits rule.now tour.now }
     requires fits { R.Fits rule.now (S.cities tour.now) }
     requires on_tour { Each (IsOnTour (S.cities tour.now))
         (Two x.now.city x.now.after y.now.city y.now.after ∷ Two x.now.city x.now.before y.now.city y.now.before
@@ -235,7 +240,7 @@ fn try_city<S: TourStore, M: Metric, R: Rule>(
 
 /// Looks at a city: its first offer with positive gain that the rule allows, and its gain. It adds the tests to
 /// `count`.
-pub(crate) fn find_offer<S: TourStore, M: Metric, R: Rule>(
+pub(crate) fn find_offer<S: TourStore, M: Metric, R: Rule<S>>(
     tour: &S,
     metric: &M,
     rule: &R,
@@ -249,6 +254,7 @@ pub(crate) fn find_offer<S: TourStore, M: Metric, R: Rule>(
     requires city { IsCity (length (S.cities tour.now)) city }
     requires most { (1 ≤ or_segment) × (or_segment ≤ 3) }
     requires known { AreMeasured (M.distance metric.now) steps.old }
+    requires suits { R.Suits rule.now tour.now }
     requires tour { R.Fits rule.now (S.cities tour.now) }
     ensures searched { Searched (M.distance metric.now) (R.allowed rule.now (S.cities tour.now))
         (offers_at (S.cities tour.now) or_segment near.now city) result count.old count.new }

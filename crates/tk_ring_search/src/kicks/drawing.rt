@@ -1,11 +1,13 @@
 //! Draws of kicks, until a ring fits after one.
+ghost use Rattle.std.specs.Prelude.{◌≡◌};
 ghost use Rattle.tk_rings.specs.Capacities.{IsFitting};
+ghost use Rattle.tk_rings.specs.LoadedRings.{cities_in, demands_in};
 ghost use Rattle.tk_ring_search.specs.Drawing.{AreDraws};
 
 use crate::kicks::kick::Kick;
 use rand_core::Rng;
-use tk_rings::Capacity;
-use tk_tour::TourStore;
+use tk_rings::{Capacity, LoadedRing};
+use tk_tour::{TourStore, UndoStore};
 
 /// The maximum number of draws for one kick.
 const DRAWS: u32 = 1_000;
@@ -21,9 +23,14 @@ pub struct Drawn {
 
 /// Draws kicks of a ring that fits until it also fits after one, at most 1,000 of them. Of a ring of fewer than 8
 /// elements it draws none.
-pub fn draw_fitting<S: TourStore, R: Rng>(ring: &S, vehicles: &Capacity<'_>, rng: &mut R) -> Drawn
-    requires fits { IsFitting vehicles.now.capacity vehicles.now.demands.now (S.cities ring.now) }
-    ensures { AreDraws vehicles.now.capacity vehicles.now.demands.now (S.cities ring.now) (R.stream rng.old)
+pub fn draw_fitting<S: UndoStore, R: Rng>(
+    ring: &LoadedRing<'_, S>,
+    vehicles: &Capacity<'_>,
+    rng: &mut R,
+) -> Drawn
+    requires suits { demands_in ring.now ≡ vehicles.now.demands.now }
+    requires fits { IsFitting vehicles.now.capacity vehicles.now.demands.now (cities_in ring.now) }
+    ensures { AreDraws vehicles.now.capacity vehicles.now.demands.now (cities_in ring.now) (R.stream rng.old)
         result (R.stream rng.new) }
 {
     let n = ring.size();

@@ -5,14 +5,15 @@ ghost use Rattle.tk_tour.specs.Counters.{saturated};
 ghost use Rattle.tk_tour.specs.Reversal.{begun_at};
 ghost use Rattle.tk_tour.specs.Tour.{SameCycle};
 ghost use Rattle.tk_rings.specs.Capacities.{IsFitting};
+ghost use Rattle.tk_rings.specs.LoadedRings.{cities_in, demands_in};
 ghost use Rattle.tk_search.specs.Cuts.{kick_swaps};
 ghost use Rattle.tk_ring_search.specs.Kicks.{IsKick, drawn_kick, ends_of, is_within, kicked};
 
 use rand::RngExt;
 use rand_core::Rng;
-use tk_rings::Capacity;
+use tk_rings::{Capacity, LoadedRing};
 use tk_search::Cuts;
-use tk_tour::TourStore;
+use tk_tour::{TourStore, UndoStore};
 
 /// The maximum number of elements in each of the three parts that a kick moves.
 const PART: u32 = 10;
@@ -79,11 +80,12 @@ impl Kick {
     }
 
     /// Whether a ring that fits also does after the kick. It walks along the routes at the cuts and makes no move.
-    pub fn fits<S: TourStore>(&self, ring: &S, vehicles: &Capacity<'_>) -> bool
-        requires kick { IsKick (length (S.cities ring.now)) self.now }
-        requires fits { IsFitting vehicles.now.capacity vehicles.now.demands.now (S.cities ring.now) }
+    pub fn fits<S: UndoStore>(&self, ring: &LoadedRing<'_, S>, vehicles: &Capacity<'_>) -> bool
+        requires suits { demands_in ring.now ≡ vehicles.now.demands.now }
+        requires kick { IsKick (length (cities_in ring.now)) self.now }
+        requires fits { IsFitting vehicles.now.capacity vehicles.now.demands.now (cities_in ring.now) }
         ensures { result ≡ is_within vehicles.now.capacity vehicles.now.demands.now
-            (kicked self.now (S.cities ring.now)) }
+            (kicked self.now (cities_in ring.now)) }
     {
         let limit = vehicles.capacity;
         let [a1, an, b1, bn, c1, cn, d1, dn] = self.ends(ring);

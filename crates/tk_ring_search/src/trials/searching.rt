@@ -17,7 +17,7 @@ use tk_tour::UndoStore;
 #[derive(Drop)]
 pub struct RingSearch<'a, S: UndoStore, M: Metric> {
     terms: RingTerms<'a, M>,
-    state: State<S>,
+    state: State<'a, S>,
     ghost holds: { IsSearching (M.size_of terms.metric.now) (given_of M.Metric terms)
         state } by { IsSearching-prop _ _ _ },
 }

@@ -2,9 +2,9 @@
 ghost use Rattle.std.specs.Prelude.{◌≡◌, ◌≤◌, ◌<◌, ◌+◌, ◌-◌, ◌^◌, IfOk, length, pos, true};
 ghost use Rattle.tk_descent.specs.Awake.{woken_each};
 ghost use Rattle.tk_rings.specs.Capacities.{IsFitting};
+ghost use Rattle.tk_rings.specs.LoadedRings.{KeepsLoaded, cities_in, flips_in, swaps_in};
 ghost use Rattle.tk_search.specs.Cuts.{kick_swaps};
 ghost use Rattle.tk_tour.specs.Counters.{saturated};
-ghost use Rattle.tk_tour.specs.JournalTours.{KeepsSettled, cities_of, flips_since, swaps_of};
 ghost use Rattle.tk_tour.specs.Tour.{SameCycle, tour_length};
 ghost use Rattle.tk_ring_search.specs.Best.{best_of};
 ghost use Rattle.tk_ring_search.specs.Given.{given_of};
@@ -25,8 +25,9 @@ use rand_core::Rng;
 use std::alloc::{AllocError, Global};
 use tk_descent::{EdgeCache, Report, SweptReport, Waking};
 use tk_distance::Metric;
+use tk_rings::LoadedRing;
 use tk_search::bridged_length;
-use tk_tour::{JournalTour, TourStore, UndoStore, length};
+use tk_tour::{TourStore, UndoStore, length};
 
 /// The journal has room for as many flips as the ring has elements, and for these. Few trials make more.
 const SPARE: u32 = 1_000;
@@ -34,8 +35,8 @@ const SPARE: u32 = 1_000;
 /// The state of a search: the current ring and its cost, the best ring and its cost, the waking elements, the cache of
 /// edge lengths, and the totals.
 #[derive(Drop)]
-pub(crate) struct State<S: UndoStore> {
-    pub(crate) ring: JournalTour<S>,
+pub(crate) struct State<'a, S: UndoStore> {
+    pub(crate) ring: LoadedRing<'a, S>,
     pub(crate) best: Best,
     pub(crate) waking: Waking,
     pub(crate) steps: EdgeCache,
@@ -44,16 +45,16 @@ pub(crate) struct State<S: UndoStore> {
     pub(crate) totals: RingTotals,
 }
 
-impl<S: UndoStore> State<S> {
+impl<'a, S: UndoStore> State<'a, S> {
     /// The state after the first descent from a ring.
     ///
     /// # Errors
     /// `AllocError` if memory runs out; the ring is dropped then.
     pub(crate) fn begin<M: Metric>(
         alloc: Global,
-        terms: &RingTerms<'_, M>,
+        terms: &RingTerms<'a, M>,
         ring: S,
-    ) -> Result<State<S>, AllocError>
+    ) -> Result<State<'a, S>, AllocError>
         requires sizes { (M.size_of terms.now.metric.now ≡ length (S.cities ring))
             × (terms.now.near.now.size ≡ length (S.cities ring)) }
         requires most { (1 ≤ terms.now.or_segment) × (terms.now.or_segment ≤ 3) }
@@ -66,7 +67,7 @@ impl<S: UndoStore> State<S> {
         let n = ring.size();
         let mut best = Best::new(alloc, &ring)?;
         let before = length(terms.metric, best.elements());
-        let mut ring = JournalTour::new(alloc, ring, n + SPARE)?;
+        let mut ring = LoadedRing::new(alloc, ring, n + SPARE, terms.vehicles.demands)?;
         let mut waking = Waking::new(alloc, n)?;
         let mut steps = EdgeCache::new(alloc, n)?;
         waking.wake_all();
@@ -140,12 +141,12 @@ impl<S: UndoStore> State<S> {
     ) -> RingTrial
         requires stands { IsStanding (M.size_of terms.now.metric.now) (given_of M.Metric terms.now) self.old }
         requires left { self.old.totals.trials < terms.now.trials }
-        requires kick { IsKick (length (cities_of self.old.ring)) kick }
+        requires kick { IsKick (length (cities_in self.old.ring)) kick }
         requires fits { is_within terms.now.vehicles.capacity terms.now.vehicles.demands.now
-            (kicked kick (cities_of self.old.ring)) ≡ true }
-        requires swaps { self.old.totals.swaps ≡ swaps_of self.old.ring }
+            (kicked kick (cities_in self.old.ring)) ≡ true }
+        requires swaps { self.old.totals.swaps ≡ swaps_in self.old.ring }
         ensures descent { IsKickedDescent (searching (given_of M.Metric terms.now) self.old) kick
-            (swaps_of self.new.ring) (cities_of self.new.ring) (best_of self.new.best) result }
+            (swaps_in self.new.ring) (cities_in self.new.ring) (best_of self.new.best) result }
         ensures draws { result.draws ≡ draws }
         ensures totals { self.new.totals ≡ self.old.totals }
         ensures stands { IsStanding (M.size_of terms.now.metric.now) (given_of M.Metric terms.now) self.new }
@@ -174,19 +175,19 @@ impl<S: UndoStore> State<S> {
 
     /// Makes a kick and wakes its ends. Returns the cost of the ring then.
     fn make<M: Metric>(&mut self, metric: &M, kick: Kick) -> i64
-        requires kick { IsKick (length (cities_of self.old.ring)) kick }
-        requires sizes { (M.size_of metric.now ≡ length (cities_of self.old.ring))
-            × (self.old.waking.size ≡ length (cities_of self.old.ring)) }
-        requires cost { self.old.cost ≡ pos (tour_length (M.distance metric.now) (cities_of self.old.ring)) }
-        ensures kicked { SameCycle (cities_of self.new.ring) (kicked kick (cities_of self.old.ring)) }
+        requires kick { IsKick (length (cities_in self.old.ring)) kick }
+        requires sizes { (M.size_of metric.now ≡ length (cities_in self.old.ring))
+            × (self.old.waking.size ≡ length (cities_in self.old.ring)) }
+        requires cost { self.old.cost ≡ pos (tour_length (M.distance metric.now) (cities_in self.old.ring)) }
+        ensures kicked { SameCycle (cities_in self.new.ring) (kicked kick (cities_in self.old.ring)) }
         ensures awake { self.new.waking.queue
-            ≡ woken_each self.old.waking.queue (ends_of kick (cities_of self.old.ring)) }
-        ensures cost { result ≡ pos (tour_length (M.distance metric.now) (cities_of self.new.ring)) }
-        ensures flips { flips_since self.new.ring ≡ saturated (flips_since self.old.ring + 4) }
-        ensures swaps { swaps_of self.new.ring
-            ≡ saturated (swaps_of self.old.ring + kick_swaps (length (cities_of self.old.ring)) kick.cuts) }
-        ensures kept { KeepsSettled self.old.ring self.new.ring }
-        ensures size { length (cities_of self.new.ring) ≡ length (cities_of self.old.ring) }
+            ≡ woken_each self.old.waking.queue (ends_of kick (cities_in self.old.ring)) }
+        ensures cost { result ≡ pos (tour_length (M.distance metric.now) (cities_in self.new.ring)) }
+        ensures flips { flips_in self.new.ring ≡ saturated (flips_in self.old.ring + 4) }
+        ensures swaps { swaps_in self.new.ring
+            ≡ saturated (swaps_in self.old.ring + kick_swaps (length (cities_in self.old.ring)) kick.cuts) }
+        ensures kept { KeepsLoaded self.old.ring self.new.ring }
+        ensures size { length (cities_in self.new.ring) ≡ length (cities_in self.old.ring) }
         ensures others { (self.new.best ≡ self.old.best) × (self.new.cost ≡ self.old.cost)
             × (self.new.shortest ≡ self.old.shortest) × (self.new.totals ≡ self.old.totals)
             × (self.new.steps ≡ self.old.steps) × (self.new.waking.size ≡ self.old.waking.size) }

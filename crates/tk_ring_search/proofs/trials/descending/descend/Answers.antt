@@ -22,3 +22,10 @@ returns-clause-once g c = λ e.
         refl,
       )
     ]
+
+pub returns-clause-flips_only : goal.returns-clause-flips_only
+returns-clause-flips_only g c =
+    elim c.if-terms.branch [
+      | then-terms w ↦ rw w.ring-is w.descend_swept_under-report.ensures.flips_only
+      | else-terms w ↦ rw w.ring-is w.descend_under.ensures.flips_only
+    ]

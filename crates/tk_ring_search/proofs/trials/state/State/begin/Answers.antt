@@ -1,7 +1,7 @@
 use Rattle.std.proofs.Common.{ℕ, List, ◌≡◌, ◌+◌, length, pos, refl, sym, ap, ◌∙◌, subst, rules, arith}
 use Rattle.std.proofs.lemmas.Int.{to_z-of_z}
 use Rattle.tk_descent.proofs.WakeExecutions.Passes.{all_awake}
-use Rattle.tk_tour.specs.JournalTours.{KeepsSettled, cities_of}
+use Rattle.tk_rings.specs.LoadedRings.{KeepsLoaded, cities_in}
 use Rattle.tk_tour.specs.Tour.{tour_length}
 use Rattle.tk_tour.proofs.CitiesOfTours.{cities_of_tour}
 use Rattle.tk_ring_search.specs.Best.{best_of}
@@ -21,10 +21,10 @@ length-before-requires-clause-cities g c =
     c.elements.ensures.tour.2
 
 -- the ring that the descent found is settled, and the best
-settled_ring : (g : Over) (c : After-new-5 g) → cities_of c.settle.new.self ≡ cities_of c.descend-report.new.ring
+settled_ring : (g : Over) (c : After-new-5 g) → cities_in c.settle.new.self ≡ cities_in c.descend-report.new.ring
 settled_ring g c = ap (g.S.TourStore.cities) c.settle.ensures.tour
 
-best_ring : (g : Over) (c : After-new-5 g) → best_of c.take.new.self ≡ cities_of c.descend-report.new.ring
+best_ring : (g : Over) (c : After-new-5 g) → best_of c.take.new.self ≡ cities_in c.descend-report.new.ring
 best_ring g c = c.take.ensures ∙ ap (g.S.TourStore.cities) c.tour.ensures.tour
 
 start_cost : (g : Over) (c : After-new-5 g) →
@@ -37,7 +37,7 @@ start_cost g c = c.length-before.ensures
 pub returns-clause-begun : goal.returns-clause-begun
 returns-clause-begun g c =
     let fb : SFits w64 c.length-before.result = search rules in
-    let kept : KeepsSettled c.in_ok-ring.ring c.descend-report.new.ring = c.descend-report.ensures.flips_only in
+    let kept : KeepsLoaded c.in_ok-ring.ring c.descend-report.new.ring = c.descend-report.ensures.flips_only in
     record {
       given_is = refl;
       from = _;
@@ -57,11 +57,11 @@ returns-clause-begun g c =
       tests = refl;
       swaps = c.in_ok-ring.ensures.counts.0;
       by_flips = record {
-        flips = kept.flipped.flips;
-        swaps = kept.flipped.swaps;
-        reversed = kept.flipped.reversed;
-        flips_are = kept.flips;
-        swaps_are = kept.flipped.swaps_are;
+        flips = kept.settled.flipped.flips;
+        swaps = kept.settled.flipped.swaps;
+        reversed = kept.settled.flipped.reversed;
+        flips_are = kept.settled.flips;
+        swaps_are = kept.settled.flipped.swaps_are;
       };
       ring = settled_ring g c;
       best = best_ring g c;
@@ -74,11 +74,11 @@ pub returns-clause-holds : goal.returns-clause-holds
 returns-clause-holds g c =
     let given = given_of g.M.Metric c.args.terms.now in
     let d = c.descend-report.ensures in
-    let kept : KeepsSettled c.in_ok-ring.ring c.descend-report.new.ring = d.flips_only in
+    let kept : KeepsLoaded c.in_ok-ring.ring c.descend-report.new.ring = d.flips_only in
     let fa : SFits w64 c.descend-report.result.descent.after = search rules in
     let steps = c.in_ok-steps.ensures (g.M.Metric.distance c.args.terms.now.metric.now) in
     let n : ℕ = length (g.S.TourStore.cities c.args.ring) in
-    let same : length (cities_of c.descend-report.new.ring) ≡ n = d.sizes.0 ∙ ap length c.in_ok-ring.ensures.order in
+    let same : length (cities_in c.descend-report.new.ring) ≡ n = d.sizes.0 ∙ ap length c.in_ok-ring.ensures.order in
     let best : length (best_of c.take.new.self) ≡ n = ap length (best_ring g c) ∙ same in
     let FitsRing : List ℕ → Type 0 = λ v. Fits given v in
     let cost = to_z-of_z w64 c.descend-report.result.descent.after fa ∙ d.reported.after in
@@ -90,10 +90,11 @@ returns-clause-holds g c =
         asleep = d.asleep;
         steps = d.steps;
         segment = c.requires.most;
+        demands = c.settle.ensures.demands ∙ kept.demands ∙ c.in_ok-ring.ensures.demands;
         count = ap length (settled_ring g c) ∙ same ∙ sym best;
         settled = c.settle.ensures.settled ∙ sym (settled_ring g c);
         flips = c.settle.ensures.flips;
-        slots = c.settle.ensures.slots ∙ kept.slots ∙ c.in_ok-ring.ensures.slots
+        slots = c.settle.ensures.slots ∙ kept.settled.slots ∙ c.in_ok-ring.ensures.slots
             ∙ ap (λ v. v + 1000) (c.size-n.ensures ∙ sym best);
         fits = subst FitsRing (sym (settled_ring g c)) d.fitting;
         best_fits = subst FitsRing (sym (best_ring g c)) d.fitting;

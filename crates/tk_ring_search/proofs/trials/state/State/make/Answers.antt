@@ -4,7 +4,7 @@ use Rattle.std.specs.List.{All}
 use Rattle.tk_distance.specs.Cities.{IsCity}
 use Rattle.tk_problem.specs.declared.limits.TheConstants.{CITY_LIMIT}
 use Rattle.tk_descent.proofs.WakeExecutions.DescentSteps.{fits_length}
-use Rattle.tk_tour.specs.JournalTours.{cities_of}
+use Rattle.tk_rings.specs.LoadedRings.{cities_in}
 use Rattle.tk_ring_search.proofs.KickParts.{length_of}
 use Rattle.tk_ring_search.proofs.trials.state.State.make.Goals as goal
 
@@ -22,7 +22,7 @@ pub bridged_length-requires-clause-before : goal.bridged_length-requires-clause-
 bridged_length-requires-clause-before g c =
     let m = c.args.metric.now in
     let d = g.M.Metric.distance m in
-    let C : List ℕ = cities_of c.args.self.now.ring in
+    let C : List ℕ = cities_in c.args.self.now.ring in
     let few : length C ≤ CITY_LIMIT = omega (arith, c.requires.sizes.0, g.met.M.Metric.size_limit m) in
     let bound = fits_length d C (g.met.M.Metric.symmetric m, g.met.M.Metric.distance_limit m) few in
     (omega (arith, ints, c.requires.cost, bound), omega (arith, ints, c.requires.cost, bound))
@@ -31,8 +31,8 @@ pub returns-clause-cost : goal.returns-clause-cost
 returns-clause-cost g c =
     let m = c.args.metric.now in
     let d = g.M.Metric.distance m in
-    let C : List ℕ = cities_of c.args.self.now.ring in
-    let D : List ℕ = cities_of c.make.new.ring in
+    let C : List ℕ = cities_in c.args.self.now.ring in
+    let D : List ℕ = cities_in c.make.new.ring in
     let few : length D ≤ CITY_LIMIT =
     omega (arith, c.make.ensures.size, c.requires.sizes.0, g.met.M.Metric.size_limit m) in
     let bound = fits_length d D (g.met.M.Metric.symmetric m, g.met.M.Metric.distance_limit m) few in

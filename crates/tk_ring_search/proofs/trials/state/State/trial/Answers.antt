@@ -1,5 +1,5 @@
 use Rattle.std.proofs.Common.{◌≡◌, ℕ, ◌≤◌, length, refl, sym, ◌∙◌, ap, arith}
-use Rattle.tk_tour.specs.JournalTours.{cities_of, swaps_of}
+use Rattle.tk_rings.specs.LoadedRings.{cities_in, swaps_in}
 use Rattle.tk_ring_search.specs.Drawing.{most_draws}
 use Rattle.tk_ring_search.specs.Given.{given_of}
 use Rattle.tk_ring_search.specs.declared.trials.state.State.{State}
@@ -17,7 +17,7 @@ descend_kicked-trial-requires-clause-kick g c =
 
 pub with_trial-self-requires-clause-draws : goal.with_trial-self-requires-clause-draws
 with_trial-self-requires-clause-draws g c =
-    let few = few_most (length (cities_of c.args.self.now.ring)) in
+    let few = few_most (length (cities_in c.args.self.now.ring)) in
     let most = c.draw_fitting-drawn.ensures.few in
     elim c.match-drawn.branch [
       | in-Some w ↦ omega (
@@ -38,7 +38,7 @@ returns g c =
     let old = c.args.self.now in
     let h = c.requires.holds in
     let d = c.draw_fitting-drawn.ensures in
-    let n : ℕ = length (cities_of old.ring) in
+    let n : ℕ = length (cities_in old.ring) in
     let few : c.draw_fitting-drawn.result.draws ≤ 1000 = omega (arith, d.few, few_most n) in
     let words = g.R.Rng.stream c.args.rng.now in
     let rest = g.R.Rng.stream c.draw_fitting-drawn.new.rng in
@@ -52,14 +52,14 @@ returns g c =
           renamed size given old c.match-drawn.self made totals words rest c.match-drawn.trial
           w.descend_kicked-trial.result w.self-is w.trial-is
           (kicked_tried size given old made totals words rest c.draw_fitting-drawn.result.draws w.in-Some.kick
-          w.descend_kicked-trial.result (swaps ∙ ap (λ (v : State _ _ _). swaps_of v.ring) w.self-is) k.draws
+          w.descend_kicked-trial.result (swaps ∙ ap (λ (v : State _ _ _). swaps_in v.ring) w.self-is) k.draws
           (rw w.in-Some.is at d.kick) k.descent k.totals k.stands few)
       | in-None w ↦
           let k = w.idle-trial.ensures in
           renamed size given old c.match-drawn.self old totals words rest c.match-drawn.trial w.idle-trial.result
           w.self-is w.trial-is
           (idle_tried size given old totals words rest c.draw_fitting-drawn.result.draws w.idle-trial.result h.stands
-          (swaps ∙ ap (λ (v : State _ _ _). swaps_of v.ring) w.self-is) h.swaps k.draws k.outcome k.lengths k.counts
+          (swaps ∙ ap (λ (v : State _ _ _). swaps_in v.ring) w.self-is) h.swaps k.draws k.outcome k.lengths k.counts
           (rw w.in-None.is at d.kick) few)
     ] in
     let count : c.size.result ≡ n = c.size.ensures ∙ tried.stands.count ∙ sym tried.stands.elements
