@@ -79,7 +79,7 @@ impl Kick {
         ]
     }
 
-    /// Whether a ring that fits also does after the kick. It walks along the routes at the cuts and makes no move.
+    /// Whether a ring that fits also does after the kick. It joins the loads of the four paths and makes no move.
     pub fn fits<S: UndoStore>(&self, ring: &LoadedRing<'_, S>, vehicles: &Capacity<'_>) -> bool
         requires suits { demands_in ring.now ≡ vehicles.now.demands.now }
         requires kick { IsKick (length (cities_in ring.now)) self.now }
