@@ -35,6 +35,11 @@ def clustered(draw, n):
             for x, y in (centres[draw.below(len(centres))] for _ in range(n))]
 
 
+def strip(draw, n):
+    """Places in a strip."""
+    return [(draw.below(SIDE), draw.below(100)) for _ in range(n)]
+
+
 def tenths(draw, n):
     """Places in a square of side 4,000, with one decimal."""
     return [tuple(f"{c // 10}.{c % 10}" for c in (draw.below(40_000), draw.below(40_000))) for _ in range(n)]

@@ -6,9 +6,6 @@ mod draws;
 mod lines;
 mod near;
 mod places;
-mod savings;
-mod search;
-mod segments;
 mod strips;
 mod times;
 mod tour;
@@ -21,20 +18,14 @@ pub enum Benchmark {
     Descent,
     Distances,
     Near,
-    Savings,
-    Search,
-    Segments,
     Tour,
 }
 
 /// The benchmarks, with their names.
-static BENCHMARKS: [(&str, Benchmark); 7] = [
+static BENCHMARKS: [(&str, Benchmark); 4] = [
     ("descent", Benchmark::Descent),
     ("distances", Benchmark::Distances),
     ("near", Benchmark::Near),
-    ("savings", Benchmark::Savings),
-    ("search", Benchmark::Search),
-    ("segments", Benchmark::Segments),
     ("tour", Benchmark::Tour),
 ];
 
@@ -67,9 +58,6 @@ fn run(rt: &HostRuntime, times: Times, benchmark: Benchmark) -> anyhow::Result<(
         Benchmark::Descent => descent::run(rt, times),
         Benchmark::Distances => distances::run(rt, times),
         Benchmark::Near => near::run(rt, times),
-        Benchmark::Savings => savings::run(rt, times),
-        Benchmark::Search => search::run(rt, times),
-        Benchmark::Segments => segments::run(rt, times),
         Benchmark::Tour => tour::run(rt, times),
     }
 }

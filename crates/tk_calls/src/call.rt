@@ -83,9 +83,7 @@ fn run_calls(rt: &HostRuntime, words: u32) -> Result<(), Stopped> {
 
 /// Prints the usage.
 fn refused(rt: &HostRuntime) -> ExitCode {
-    let _ = eprintln!(rt;
-        "usage: tk_calls [calls|descent|distances|near|savings|search|segments|tour]"
-    );
+    let _ = eprintln!(rt; "usage: tk_calls [calls|descent|distances|near|tour]");
     ExitCode::from(USAGE)
 }
 

@@ -11,8 +11,6 @@ use tk_text::{COORDINATE_LIMIT, Point, Points, SCALE};
 pub enum Input {
     /// Anywhere in a square.
     Uniform,
-    /// Anywhere in a strip of 10^6 by 100.
-    Strip,
     /// At one point.
     OnePlace,
     /// In rows of 316, so that 100,000 cities fill a square.
@@ -49,7 +47,6 @@ fn place(input: Input, i: u32, r: u32, s: u32) -> Point
     let y = s % 1_000_000;
     match input {
         Input::Uniform => whole(x, y),
-        Input::Strip => whole(x, s % 100),
         Input::OnePlace => whole(7, 7),
         Input::Lattice => whole(i % 316, i / 316),
         Input::Axes => { if i % 2 == 0 { whole(x, 0) } else { whole(0, y) } }
