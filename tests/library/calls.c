@@ -1,6 +1,7 @@
 /* Makes each call of the library in three ways: with each allocation failing in turn; with output buffers that are empty, too small, just
  * large enough and too large; and from eight threads at once. Linked with --wrap for malloc, realloc and free.
- * usage: calls FOLDER ROUNDS     FOLDER contains the files of examples/ and short.par; each thread makes each call ROUNDS times */
+ * usage: calls FOLDER ROUNDS [threads]     FOLDER contains the files of examples/ and short.par; each thread makes each call ROUNDS times. With
+ * the word threads, the calls are made once and then by the threads, without failing allocations and other buffers */
 #include "tourkit.h"
 #include <pthread.h>
 #include <stdio.h>
@@ -260,8 +261,9 @@ static void try_rooms(int which) {
 }
 
 int main(int count, char **words) {
-    if (count != 3) {
-        fprintf(stderr, "usage: calls FOLDER ROUNDS\n");
+    bool only_threads = count == 4 && strcmp(words[3], "threads") == 0;
+    if (count != 3 && !only_threads) {
+        fprintf(stderr, "usage: calls FOLDER ROUNDS [threads]\n");
         return 2;
     }
     const char *folder = words[1];
@@ -286,6 +288,7 @@ int main(int count, char **words) {
         uint32_t status = is_refused_call(which) ? TOURKIT_REFUSED : which == 14 ? TOURKIT_FOUND : TOURKIT_DONE;
         expect(which == 25 || is_untouched(&w->info), "numbers of a problem that was not read", which, 0);
         expect(w->answer.status == status, "another status than is wanted", which, w->answer.status);
+        if (only_threads) continue;
         refuse_each(which);
         if (unit_of(which)) try_rooms(which);
     }
