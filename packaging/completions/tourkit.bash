@@ -25,7 +25,7 @@ _tourkit_options() {
         info) _tourkit_words "--json -h --help" ;;
         matrix) _tourkit_words "--json -h --help" ;;
         near) _tourkit_words "-k --json -h --help" ;;
-        plot) _tourkit_words "--html -h --help" ;;
+        plot) _tourkit_words "--html --names -h --help" ;;
         solve) _tourkit_words "-o --output --trials --seconds --candidates --runs --seed --or-segment --construction
             --final-sweep --initial-tour --initial-solution --vehicles --within-routes --progress --log --json -h --help" ;;
     esac
@@ -69,7 +69,7 @@ _tourkit() {
         *:-k:* | *:--trials:* | *:--seconds:* | *:--candidates:* | *:--runs:* | *:--seed:* | *:--vehicles:*) ;;
         *:--or-segment:*) _tourkit_words "1 2 3" ;;
         *:--construction:*) _tourkit_words "nearest savings" ;;
-        *:-o:* | *:--output:* | *:--log:* | *:--initial-tour:* | *:--initial-solution:* | *:*[\<\>]:*) _tourkit_files ;;
+        *:-o:* | *:--output:* | *:--log:* | *:--names:* | *:--initial-tour:* | *:--initial-solution:* | *:*[\<\>]:*) _tourkit_files ;;
         *:*:-*) _tourkit_options ;;
         *) _tourkit_arguments ;;
     esac

@@ -33,6 +33,8 @@ complete -c tourkit -n '__fish_seen_subcommand_from near' -s k -x -d 'length of 
 complete -c tourkit -n '__fish_seen_subcommand_from near' -l json -d 'print one JSON object instead of text'
 
 complete -c tourkit -n '__fish_seen_subcommand_from plot' -l html -d 'print an HTML page instead of an SVG picture'
+complete -c tourkit -n '__fish_seen_subcommand_from plot' -l names -r -F \
+    -d "show the names in column 'name' of the CSV file FILE on the page"
 
 complete -c tourkit -n '__fish_seen_subcommand_from solve' -s o -l output -r -F \
     -d 'write the best tour, or the routes of a CVRP, to FILE'

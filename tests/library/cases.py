@@ -18,7 +18,7 @@ from tourkit._text import Text
 from tourkit._writing import write_texts
 
 # What the package does not have.
-OF_THE_COMMAND = {"--help", "--seconds", "--vehicles"}
+OF_THE_COMMAND = {"--help", "--names", "--seconds", "--vehicles"}
 
 # Messages about the command line, the files that the program opens and writes, or its two ways to search.
 OF_THE_PROGRAM = re.compile(r"^error: |cannot be opened|is the same file as|is the parameter file|search options need")

@@ -34,6 +34,9 @@ const NO_START: &str =
 /// The message about a time limit, if each route is improved by itself.
 const NO_SECONDS: &str = "the argument '--seconds <N>' cannot be used with '--within-routes'";
 
+/// The message if names of nodes were given, but no page to show them in was requested.
+const NO_PAGE: &str = "the argument '--names <FILE>' needs '--html'";
+
 /// Why there is no request.
 pub enum NoRequest {
     /// Memory ran out.
@@ -108,10 +111,16 @@ fn misfit(request: &Request<'_>) -> Option<&'static str> {
             ..
         } => twice_standard(*problem, solutions),
         Request::Plot {
-            problem,
-            claim: Some(claim),
+            names: Some(_),
+            html: false,
             ..
-        } => twice_standard(*problem, &[*claim]),
+        } => Some(NO_PAGE),
+        Request::Plot {
+            problem,
+            claim,
+            names,
+            ..
+        } => twice_standard(*problem, &[claim.unwrap_or(""), names.unwrap_or("")]),
         Request::Solve { shown, .. } if shown.log == Some(STANDARD) => Some(STANDARD_LOG),
         Request::Solve {
             file,

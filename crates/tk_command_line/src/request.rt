@@ -49,11 +49,12 @@ pub enum Request<'a> {
         length: ListLength,
         json: bool,
     },
-    /// `plot PROBLEM [TOUR | SOLUTION] [--html]`
+    /// `plot PROBLEM [TOUR | SOLUTION] [--html [--names FILE]]`
     Plot {
         problem: &'a str,
         claim: Option<&'a str>,
         html: bool,
+        names: Option<&'a str>,
     },
     /// `solve PARAMETERS [--progress] [--log FILE] [--json]`, or `solve PROBLEM` with search options
     Solve {

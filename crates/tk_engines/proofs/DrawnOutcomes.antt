@@ -37,7 +37,7 @@ depot_read (Some r) = refl
 -- a picture of a problem's view is one of the problem
 pub picture_drawn : (form : OutputFormat) (places : Option GivenPlaces) (p : Problem) (picture : Picture) (v : View)
     (subject : Subject)
-    → IsViewOf places (problem_is p) v → picture.name.now ≡ p.name.items → picture.origin ≡ origin_of places
+    → IsViewOf form places (problem_is p) v → picture.name.now ≡ p.name.items → picture.origin ≡ origin_of places
     → picture.view ≡ v → picture.subject ≡ subject → picture.depot ≡ option_map (λ r. r.depot) p.routing
     → picture.demands.now ≡ demands_in (routing_is p.routing)
     → IsPicture form places (problem_is p) (drawing_of subject) (text_in form picture)

@@ -90,6 +90,7 @@ second_reached P task Second Writes p fits (Err faults.WrongType) h = cc (fits, 
 second_reached P task Second Writes p fits (Err (faults.NotForType key)) h = cc (fits, h.is_problem, h.misfit)
 second_reached P task Second Writes p fits (Err faults.TooLarge) h = cc (fits, h.is_problem, h.misfit)
 second_reached P task Second Writes p fits (Err faults.NoPlaces) h = cc (fits, h.is_problem, h.misfit)
+second_reached P task Second Writes p fits (Err (faults.WrongNames n)) h = cc (fits, h.is_problem, h.misfit)
 second_reached P task Second Writes p fits _ h = tt
 
 -- an outcome was found, and then written

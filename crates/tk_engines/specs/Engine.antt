@@ -165,6 +165,7 @@ Stopped task Problem Second Writes faults.WrongType = IsMisfit task Problem faul
 Stopped task Problem Second Writes (faults.NotForType key) = IsMisfit task Problem (faults.NotForType key)
 Stopped task Problem Second Writes faults.TooLarge = IsMisfit task Problem faults.TooLarge
 Stopped task Problem Second Writes faults.NoPlaces = IsMisfit task Problem faults.NoPlaces
+Stopped task Problem Second Writes (faults.WrongNames n) = IsMisfit task Problem (faults.WrongNames n)
 Stopped task Problem Second Writes (faults.Tour f) = IsSecondRefused task Problem Second (faults.Tour f)
 Stopped task Problem Second Writes (faults.Solution f) = IsSecondRefused task Problem Second (faults.Solution f)
 Stopped {B} task Problem Second Writes (faults.Initial f) =
@@ -197,6 +198,7 @@ BeforeSecond P faults.WrongType = P
 BeforeSecond P (faults.NotForType key) = P
 BeforeSecond P faults.TooLarge = P
 BeforeSecond P faults.NoPlaces = P
+BeforeSecond P (faults.WrongNames n) = P
 BeforeSecond P _ = Unit {0}
 
 -- P is true if an engine stopped for a fault other than a write fault

@@ -35,7 +35,7 @@ use Rattle.tk_outcomes.specs.Lines.RouteLine.{route_verdict_line}
 use Rattle.tk_engines.specs.ReadProblems.{instance_in}
 use Rattle.tk_engines.specs.declared.fault.Fault.{Fault}
 use Rattle.tk_engines.specs.declared.fault.Fault.TheVariants as faults
-use Rattle.tk_engines.specs.declared.fault.Fault.TheVariants.{NoPlaces}
+use Rattle.tk_engines.specs.declared.fault.Fault.TheVariants.{NoPlaces, WrongNames}
 use Rattle.tk_picture.specs.Drawings.{ATour, Cities, Drawing, SomeRoutes}
 use Rattle.tk_picture.specs.declared.extent.Extent.{Extent}
 use Rattle.tk_engines.specs.declared.engines.plotted.Plotted.{Plotted}
@@ -43,7 +43,7 @@ use Rattle.tk_engines.specs.declared.engines.plotted.Plotted.TheVariants as plot
 use Rattle.tk_picture.specs.declared.view.View.{View}
 use Rattle.tk_picture.specs.Extents.{IsExtent}
 use Rattle.tk_picture.specs.declared.picture.OutputFormat.{OutputFormat}
-use Rattle.tk_picture.specs.Pictures.{form_text}
+use Rattle.tk_picture.specs.Pictures.{form_text, names_fit}
 
 -- ---- input
 
@@ -135,10 +135,20 @@ without_places (value.Points kind points) places = None
 without_places (value.Lower weights) (Some given) = None
 without_places (value.Lower weights) None = Some NoPlaces
 
+-- this reason, or that a page has names, but not one for each of n nodes
+abbrev pub or_wrong_names : Option Fault → Bool → ℕ → Option Fault
+or_wrong_names (Some f) fit n = Some f
+or_wrong_names None true n = None
+or_wrong_names None false n = Some (WrongNames n)
+
+-- why a problem cannot be drawn in a format, if it cannot
+abbrev pub undrawable : OutputFormat → Option GivenPlaces → ProblemIs → Option Fault
+undrawable form places p = or_wrong_names (without_places p.weights places) (names_fit form p.n) p.n
+
 -- the task of drawing; only the check of a second text takes memory
 abbrev pub plot_task : OutputFormat → Option GivenPlaces → Bool → Task Claim Plotted Output
 plot_task form places given = record {
-  misfit = λ p. without_places p.weights places;
+  misfit = undrawable form places;
   IsClash = NoClash;
   takes_memory = given;
   Gives = IsPlot form places;
@@ -191,9 +201,9 @@ pub record ArePointsOf (places : Option GivenPlaces) (p : ProblemIs) (points : L
   pub fits : without_places p.weights places ≡ None
   pub size : length points ≡ p.n
 
--- a view of the cities of a problem
-pub record IsViewOf (places : Option GivenPlaces) (p : ProblemIs) (v : View) : Type 0 where
+-- a view of the cities of a problem that can be drawn in a format
+pub record IsViewOf (form : OutputFormat) (places : Option GivenPlaces) (p : ProblemIs) (v : View) : Type 0 where
   pub points : places_of v.places ≡ drawn_places p.weights places
   pub extent : IsExtent (places_of v.places) v.extent
-  pub fits : without_places p.weights places ≡ None
+  pub fits : undrawable form places p ≡ None
   pub size : length (places_of v.places) ≡ p.n

@@ -45,6 +45,9 @@ pub enum Fault {
     /// The problem has explicit weights and no coordinates, so its cities cannot be drawn.
     #[error("no coordinates")]
     NoPlaces,
+    /// A page has names, but not one for each node of the problem, which has this many.
+    #[error("not one name for each node")]
+    WrongNames(u32),
 }
 
 /// The end of an engine that has written its outcome.

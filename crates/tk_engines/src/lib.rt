@@ -35,7 +35,7 @@ pub use tk_params::{
     decided_params_stay, each_params_text_has_an_answer, each_word_spells_its_key, key_of,
     read_params,
 };
-pub use tk_picture::{OutputFormat, Parts};
+pub use tk_picture::{NAME_LIMIT, NodeName, NodeNames, OutputFormat, Parts};
 pub use tk_route_search::{RouteProgress, RouteRun, RouteWatch};
 pub use tk_routes::RouteVerdict;
 pub use tk_solve::{NoObserver, Progress, RunReport, Watch};

@@ -12,13 +12,16 @@ use Rattle.tk_words.specs.declared.sources.source.Source as sources
 use Rattle.tk_writers.specs.declared.output.sink.Sink as sinks
 use Rattle.tk_engines.specs.declared.fault.Fault.{Fault}
 use Rattle.tk_engines.specs.declared.fault.Fault.TheVariants as faults
+use Rattle.tk_picture.specs.Pictures.{names_fit}
 use Rattle.tk_picture.specs.declared.picture.OutputFormat.{OutputFormat}
+use Rattle.tk_picture.specs.declared.picture.OutputFormat.TheVariants as forms
 use Rattle.tk_engines.specs.Plot.{Claim, Drawn, Nothing, Output, ReadsClaim, ReadsPlaced, Refused, RoutesClaim}
-use Rattle.tk_engines.specs.Plot.{TourClaim, WritesOutput, plot_task}
+use Rattle.tk_engines.specs.Plot.{TourClaim, WritesOutput, or_wrong_names, plot_task, undrawable, without_places}
 use Rattle.tk_engines.specs.declared.engines.plotted.Plotted.{Plotted}
 use Rattle.tk_for_c.proofs.TextsSaid.{has_fault, says}
 use Rattle.tk_for_c.specs.Answers.{IsStopIn, NeverClashes}
-use Rattle.tk_for_c.specs.Plotted.{ClaimSays, IsPlotOf, IsSolutionFault, IsTourFault, line_in, picture_in, plot_misfit}
+use Rattle.tk_for_c.specs.Plotted.{ClaimSays, IsNameless, IsPlotOf, IsSolutionFault, IsTourFault, line_in}
+use Rattle.tk_for_c.specs.Plotted.{picture_in, plot_misfit}
 use Rattle.tk_for_c.specs.Texts.{TextSays}
 
 -- the text contains the tour or the routes that were read
@@ -116,13 +119,31 @@ pub claim_stop : {C : Type 0} (source : sources.Ghosts C) (old new : C) (problem
 claim_stop source old new problem claim e given p v said fits h =
     claim_stop_of given source old new problem claim e p said fits v h.0 p.problem.routing refl h.1
 
+-- without names, only the places of the cities can be missing
+names_are_right : (form : OutputFormat) → IsNameless form → (n : ℕ) → names_fit form n ≡ true
+names_are_right forms.Svg nameless n = refl
+names_are_right (forms.Page parts names) nameless n = rw nameless refl
+
+no_wrong_names : (o : Option Fault) (n : ℕ) → o ≡ or_wrong_names o true n
+no_wrong_names None n = refl
+no_wrong_names (Some f) n = refl
+
+same_misfit : (form : OutputFormat) → IsNameless form → (places : Option GivenPlaces) (p : ProblemIs) →
+    without_places p.weights places ≡ undrawable form places p
+same_misfit form nameless places p =
+    rw (names_are_right form nameless p.n) (no_wrong_names (without_places p.weights places) p.n)
+
 -- the engine stopped
 module _ {S C W T : Type 0} (source : sources.Ghosts S) (old new : S) (claims : sources.Ghosts C)
     (claim_old claim_new : C) (outs : sinks.Ghosts W) (out out' : W) (reports : sinks.Ghosts T)
-    (reported reported' : T) (form : OutputFormat) (places : Option GivenPlaces) (given : Bool)
-    (problem claim : List ℕ) (e : source.left old ≡ Some problem) (f : claims.left claim_old ≡ Some claim) where
+    (reported reported' : T) (form : OutputFormat) (nameless : IsNameless form) (places : Option GivenPlaces)
+    (given : Bool) (problem claim : List ℕ) (e : source.left old ≡ Some problem)
+    (f : claims.left claim_old ≡ Some claim) where
   abbrev placed : ProblemIs → PlacedIs
   placed p = record { problem = p; places = places }
+
+  same : (p : ProblemIs) → plot_misfit (placed p) ≡ undrawable form places p
+  same p = same_misfit form nameless places p
 
   pub plot_stop : (v : Fault)
       → EndsByProblem (plot_task form places given) (ReadsPlaced source old new places)
@@ -137,12 +158,12 @@ module _ {S C W T : Type 0} (source : sources.Ghosts S) (old new : S) (claims : 
   plot_stop faults.NoMemory h = tt
   plot_stop (faults.Tour g) h =
       claim_stop claims claim_old claim_new problem claim f given (placed h.problem) (faults.Tour g)
-      (says placed_texts source old new problem (placed h.problem) e h.is_problem) h.fits h.refused
+      (says placed_texts source old new problem (placed h.problem) e h.is_problem) (same h.problem ∙ h.fits) h.refused
   plot_stop (faults.Solution g) h =
       claim_stop claims claim_old claim_new problem claim f given (placed h.problem) (faults.Solution g)
-      (says placed_texts source old new problem (placed h.problem) e h.is_problem) h.fits h.refused
+      (says placed_texts source old new problem (placed h.problem) e h.is_problem) (same h.problem ∙ h.fits) h.refused
   plot_stop v h = record {
     p = placed h.problem;
     is_problem = says placed_texts source old new problem (placed h.problem) e h.is_problem;
-    misfit_is = h.misfit;
+    misfit_is = same h.problem ∙ h.misfit;
   }

@@ -62,6 +62,8 @@ IsStopIn texts misfit Clash Tour Solution problem (faults.NotForType key) =
     IsMisfitIn texts misfit problem (faults.NotForType key)
 IsStopIn texts misfit Clash Tour Solution problem faults.TooLarge = IsMisfitIn texts misfit problem faults.TooLarge
 IsStopIn texts misfit Clash Tour Solution problem faults.NoPlaces = IsMisfitIn texts misfit problem faults.NoPlaces
+IsStopIn texts misfit Clash Tour Solution problem (faults.WrongNames n) =
+    IsMisfitIn texts misfit problem (faults.WrongNames n)
 IsStopIn texts misfit Clash Tour Solution problem _ = Unit {0}
 
 -- likewise, for a problem text

@@ -122,7 +122,8 @@ param_number params.TooLong = 6
 param_number params.Read = 7
 param_number params.NoMemory = 8
 
--- the number of the reason why a problem does not fit a task
+-- the number of the reason why a problem does not fit a task; 0 for `WrongNames`, which does not occur, since pages of
+-- the library have no names
 abbrev pub misfit_number : Fault → ℕ
 misfit_number faults.WrongType = 16
 misfit_number (faults.NotForType key) = 17

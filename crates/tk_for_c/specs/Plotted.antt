@@ -10,6 +10,7 @@ use Rattle.tk_engines.specs.Plot.{Claim, Drawn, IsPlot, Nothing, Output, Refused
 use Rattle.tk_engines.specs.Plot.{without_places}
 use Rattle.tk_engines.specs.declared.fault.Fault.{Fault}
 use Rattle.tk_page.specs.PageParts.{ArePageParts}
+use Rattle.tk_picture.specs.declared.node_names.NodeNames.{NodeNames}
 use Rattle.tk_picture.specs.declared.page.parts.Parts.{Parts}
 use Rattle.tk_picture.specs.declared.picture.OutputFormat.{OutputFormat}
 use Rattle.tk_picture.specs.declared.picture.OutputFormat.TheVariants as forms
@@ -54,11 +55,16 @@ HoldPlot form given problem claim out out' reported reported' answer =
     (done : Plotted) × (output : Output) × IsPlotOf form given problem claim done output
     × AreWritten (plot_status done) (picture_in output) out out' (line_in output) reported reported' answer
 
--- likewise, in an HTML page
+-- likewise, in an HTML page without names of nodes
 abbrev pub HoldPage : Bool → List ℕ → List ℕ → List ℕ → List ℕ → List ℕ → List ℕ → Answer → Type 0
 HoldPage given problem claim out out' reported reported' answer =
-    (parts : Parts) × ArePageParts parts × HoldPlot (forms.Page parts) given problem claim out out' reported reported'
-    answer
+    (parts : Parts) × ArePageParts parts × (names : NodeNames) × (names.list.now ≡ [])
+    × HoldPlot (forms.Page parts names) given problem claim out out' reported reported' answer
+
+-- a format without names of nodes
+abbrev pub IsNameless : OutputFormat → Type 0
+IsNameless forms.Svg = Unit {0}
+IsNameless (forms.Page parts names) = names.list.now ≡ []
 
 -- a problem without places for its cities cannot be drawn
 abbrev pub plot_misfit : PlacedIs → Option Fault

@@ -185,6 +185,8 @@ impl Answer {
             Fault::NotForType(_) => Answer::refused(0, 0, 17, needed),
             Fault::TooLarge => Answer::refused(0, 0, 18, needed),
             Fault::NoPlaces => Answer::refused(0, 0, 19, needed),
+            // pages of the library have no names
+            Fault::WrongNames(_) => Answer::refused(0, 0, 0, needed),
             Fault::Write(_) | Fault::NoMemory => Answer::ended(NO_MEMORY, needed),
         }
     }

@@ -6,7 +6,8 @@ ghost use Rattle.tk_picture.specs.declared.picture.OutputFormat.TheVariants.{Svg
 ghost use Rattle.tk_text.specs.Placed.{placed_texts};
 ghost use Rattle.tk_for_c.specs.Answers.{IsRightRefusalIn, IsStopIn, NeverClashes};
 ghost use Rattle.tk_for_c.specs.Outcomes.{with_status};
-ghost use Rattle.tk_for_c.specs.Plotted.{HoldPage, HoldPlot, IsClaimRefused, IsPlotOf, IsSolutionFault, IsTourFault};
+ghost use Rattle.tk_for_c.specs.Plotted.{HoldPage, HoldPlot, IsClaimRefused, IsNameless, IsPlotOf};
+ghost use Rattle.tk_for_c.specs.Plotted.{IsSolutionFault, IsTourFault};
 ghost use Rattle.tk_for_c.specs.Plotted.{line_in, picture_in, plot_misfit, plot_status};
 ghost use Rattle.tk_for_c.specs.Texts.{IsSomeText};
 
@@ -15,7 +16,7 @@ use crate::hand_out::hand_out;
 use std::alloc::Global;
 use tk_engines::{Fault, Plotted, plot_engine};
 use tk_page::page_parts;
-use tk_picture::OutputFormat;
+use tk_picture::{NodeNames, OutputFormat};
 use tk_routes::RouteVerdict;
 use tk_text::{FromRead, ToWrite};
 use tk_tour::Verdict;
@@ -29,6 +30,7 @@ fn plotted(
     claim: &[u8],
     has_claim: bool,
 ) -> Result<(Plotted, Vec<u8>, Vec<u8>), Fault>
+    requires names { IsNameless form }
     ensures ok { IfOk result (λ r. (output : Output) × IsPlotOf form.entry has_claim problem.now claim.now r.0 output
         × (r.1.items ≡ picture_in output) × (r.2.items ≡ line_in output)) }
     ensures err { IfErr result (IsStopIn placed_texts plot_misfit NeverClashes (IsTourFault has_claim claim.now)
@@ -74,6 +76,7 @@ fn drawn(
     out: &mut [u8],
     reported: &mut [u8],
 ) -> Answer
+    requires names { IsNameless form }
     ensures given { result.status ≤ 1
         → HoldPlot form.entry has_claim problem.now claim.now out.old out.new reported.old reported.new result }
     ensures known { result.status ≤ 3 }
@@ -149,9 +152,10 @@ pub fn tourkit_page(
     ensures kept { 2 ≤ result.status → out.new ≡ out.old }
 {
     let parts = page_parts();
+    let names = NodeNames { list: &[] };
     drawn(
         alloc,
-        OutputFormat::Page(parts),
+        OutputFormat::Page(parts, names),
         problem,
         claim,
         has_claim,

@@ -6,7 +6,7 @@ pub static HEAD: &[u8] = br#"<!DOCTYPE html>
 <head>
 <meta charset="utf-8">
 <meta name="viewport" content="width=device-width, initial-scale=1">
-<meta http-equiv="Content-Security-Policy" content="default-src 'none'; style-src 'sha256-jrKy/W0VNiHaJBcFfTcvjrAIZdJS52rdIPeWp7pwye4='; script-src 'sha256-jpw8aSwUb+YK8tzVUZs12Hq4JUbtSaglP/O/a6K5IMA='">
+<meta http-equiv="Content-Security-Policy" content="default-src 'none'; style-src 'sha256-gGm10sySgcp9KZrIksfexZcOJFc8nacuq2AlfpHIcYo='; script-src 'sha256-Z/pLvcwul8wbLiFNkGN1XgTIblYRg+8yiedpFCHWrlI='">
 <style>
 "#;
 
@@ -95,6 +95,7 @@ tbody tr:hover, tbody tr:has([aria-pressed=true]) { background: var(--chosen); }
 #routes .stops { background: none; }
 .stops > td { padding: 0 0 .5rem 1.5rem; }
 .stops table { width: 100%; }
+.named th, .named th button { text-align: left; overflow-wrap: anywhere; }
 .stops thead th { position: static; padding: 0 .5rem; color: var(--soft); }
 .swatch { display: inline-block; width: 1.4rem; height: .5rem; margin-right: .5rem; vertical-align: middle; background: var(--colour); }
 
@@ -168,6 +169,7 @@ pub static SCRIPT: &[u8] =
 //     #cities    line c is city c: <across>,<down> <x> <y> [<demand> [depot]], with x and y in units of 10^-9
 //     #paths     line k has the cities of the k-th closed line of the picture, which is the k-th row of the table
 //     #legs      only with a table: line k has the number of that route, and the lengths of its legs
+// With --names, #names contains the names of the cities, one on each line.
 // There are three kinds of coordinates: <across> and <down>, as in the lines of the picture; units of the picture's viewBox; and
 // pixels from the top left corner of the stage.
 'use strict';
@@ -209,6 +211,9 @@ cities.forEach((line, index) => {
     down[index + 1] = parseInt(line.slice(line.indexOf(',') + 1), 10);
     if (line.endsWith('depot')) depot = index + 1;
 });
+
+const names = byId('names')?.textContent.split('\n') ?? [];      // empty if the cities have no names
+const nameOf = city => names[city - 1] ?? '';
 
 const paths = linesOf('paths').map(line => line.split(' ').map(Number));
 const pathOf = new Int32Array(count + 1).fill(-1), stopOf = new Int32Array(count + 1);
@@ -441,6 +446,7 @@ function placeOnLine(city) {
 function wordsOf(city) {
     const [, x, y, demand] = cities[city - 1].split(' ');
     const words = [`City ${city}${roleOf(city)}`, `at (${decimal(x)}, ${decimal(y)})`];
+    if (nameOf(city) !== '') words.unshift(nameOf(city));
     if (demand !== undefined && city !== depot) words.push(`demand ${demand}`);
     words.push(...placeOnLine(city));
     const others = citiesIn(across[city], down[city], across[city], down[city]).length - 1;
@@ -556,19 +562,19 @@ function lineOf(scope, [first, ...others]) {
 
 // The customers of a route in order, with their demands, the load after each, and the length of the leg to it.
 function listOf(k) {
-    const list = element('table', {}), head = element('thead', {}), body = element('tbody', {});
+    const list = element('table', names.length > 0 ? { class: 'named' } : {}), head = element('thead', {}), body = element('tbody', {});
     const legs = linesOf('legs')[k].split(' ').slice(1), buttons = [];
     let load = 0;
     head.append(lineOf('col', ['Customer', 'Demand', 'Load after', 'Leg']));
     for (const [stop, city] of paths[k].slice(1).entries()) {
         const demand = Number(cities[city - 1].split(' ')[3]), button = element('button', { type: 'button', tabindex: stop === 0 ? 0 : -1 });
         load += demand;
-        button.append(customerOf(city));
+        button.append(nameOf(city) || customerOf(city));
         button.addEventListener('click', () => { goTo(city); stage.scrollIntoView({ block: 'nearest' }); });
         buttons.push(button);
         body.append(lineOf('row', [button, demand, load, legs[stop]]));
     }
-    body.append(lineOf('row', ['Depot', '', '', legs.at(-1)]));
+    body.append(lineOf('row', [nameOf(depot) || 'Depot', '', '', legs.at(-1)]));
     list.append(head, body);
     roam(body, () => buttons);
     return list;

@@ -16,6 +16,8 @@ use Rattle.tk_routes.specs.Cvrps.{instance_of}
 use Rattle.tk_routes.specs.Instance.{Instance, customer_count, node_of}
 use Rattle.tk_routes.proofs.ServedCustomers.{AreServedOnce-short}
 use Rattle.tk_picture.specs.declared.extent.Extent.{Extent}
+use Rattle.tk_picture.specs.declared.node_names.NodeName.{NodeName}
+use Rattle.tk_picture.specs.declared.node_names.NodeNames.{NodeNames}
 use Rattle.tk_picture.specs.declared.page.parts.Parts.{Parts}
 use Rattle.tk_picture.specs.declared.picture.OutputFormat.{OutputFormat}
 use Rattle.tk_picture.specs.declared.picture.OutputFormat.TheVariants as forms
@@ -26,7 +28,7 @@ use Rattle.tk_picture.specs.declared.subject.Subject.TheVariants as subjects
 use Rattle.tk_picture.specs.Drawings.{Drawing, Path, caption, each_filled, paths_of}
 use Rattle.tk_picture.specs.Names.{shown_name}
 use Rattle.tk_picture.specs.PageText.{Row, data_block, city_line, demand_word, depot_word, page_ending, heading}
-use Rattle.tk_picture.specs.PageText.{legs, legs_block, legs_line, opening, route_legs}
+use Rattle.tk_picture.specs.PageText.{legs, legs_block, legs_line, name_lines, names_block, opening, route_legs}
 use Rattle.tk_picture.specs.PageText.{page_text, path_line, row_line, route_row, rows, table, table_caption, table_end}
 use Rattle.tk_picture.specs.PageText.{table_head, table_start, verdict}
 use Rattle.tk_picture.specs.PictureText.{picture_text, spot, title, title_line}
@@ -204,6 +206,27 @@ length_legs_block n (subjects.Routes cvrp routes count cost) few fits =
       fits.0,
     )
 
+-- ---- the names of nodes
+
+length_name_line : (name : NodeName) → length (line (shown_name name.text.items)) ≤ 12000001
+length_name_line name =
+    omega (
+      arith,
+      length_name name.text.items name.short,
+      length-append (shown_name name.text.items) (10 ∷ []),
+    )
+
+length_names : (names : List NodeName) → length names ≤ CITY_LIMIT → length (names_block names) ≤ 2000000000000
+length_names [] few = omega arith
+length_names (name ∷ names) few =
+    let all = length_joined (line (codes "<pre id=\"names\" hidden>"))
+    (name_lines (name ∷ names) ∷ line (codes "</pre>") ∷ []) in
+    omega (
+      arith,
+      few,
+      length_flat_map (λ (n : NodeName). line (shown_name n.text.items)) 12000001 length_name_line (name ∷ names),
+    )
+
 -- ---- the whole
 
 length_ending : (parts : Parts) → length (page_ending parts) ≤ 2000020
@@ -212,11 +235,12 @@ length_ending parts =
     (line (codes "<script>") ∷ parts.script.now ∷ line (codes "</script>") ∷ []) in
     omega (arith, parts.tools_short, parts.script_short)
 
-length_page : (parts : Parts) (f : Extent) (places : List Point) (name : List ℕ) (origin : Option PlacesOrigin)
-    (s : Subject) (depot : Option ℕ) (demands : List ℕ) → length name ≤ 1024 → length places ≤ CITY_LIMIT
-    → Fits (length places) s → length (paths_of (drawing_of s)) ≤ 100001 → corners_of (paths_of (drawing_of s)) ≤ 200000
-    → length (page_text parts f places name origin (drawing_of s) depot demands) ≤ 1000000000
-length_page parts f places name origin s depot demands named few fits lines corners =
+length_page : (parts : Parts) (names : NodeNames) (f : Extent) (places : List Point) (name : List ℕ)
+    (origin : Option PlacesOrigin) (s : Subject) (depot : Option ℕ) (demands : List ℕ) → length name ≤ 1024
+    → length places ≤ CITY_LIMIT → Fits (length places) s → length (paths_of (drawing_of s)) ≤ 100001
+    → corners_of (paths_of (drawing_of s)) ≤ 200000
+    → length (page_text parts names.list.now f places name origin (drawing_of s) depot demands) ≤ 3000000000000
+length_page parts names f places name origin s depot demands named few fits lines corners =
     let d = drawing_of s in
     let n = length places in
     let city = city_line f places demands depot in
@@ -224,7 +248,7 @@ length_page parts f places name origin s depot demands named few fits lines corn
     let paths = flat_map path_line (paths_of d) in
     let all = length_joined (opening parts name origin n d) (picture_text f places name origin d depot
     ∷ line (codes "</div>") ∷ table d ∷ data_block (codes "cities") cities ∷ data_block (codes "paths") paths
-    ∷ legs_block d ∷ page_ending parts ∷ []) in
+    ∷ legs_block d ∷ names_block names.list.now ∷ page_ending parts ∷ []) in
     let p = length_opening parts name origin n d named in
     let q = length_picture f places name origin d depot named few lines corners in
     let r = length_table n s few fits in
@@ -235,6 +259,7 @@ length_page parts f places name origin s depot demands named few fits lines corn
     let x = each_short path_line length_path (paths_of d) in
     let y = length_ending parts in
     let z = length_legs_block n s few fits in
+    let last = length_names names.list.now names.few in
     omega arith
 
 -- of a picture in a form
@@ -247,10 +272,10 @@ length_form forms.Svg p named fits =
       length_picture p.view.extent (places_of p.view.places) p.name.now p.origin (drawing_of p.subject) p.depot
           named p.view.few (omega (arith, few.0, p.view.few)) (omega (arith, few.1, p.view.few)),
     )
-length_form (forms.Page parts) p named fits =
+length_form (forms.Page parts names) p named fits =
     let few = paths_few (length (places_of p.view.places)) p.subject fits in
     omega (
       arith,
-      length_page parts p.view.extent (places_of p.view.places) p.name.now p.origin p.subject p.depot p.demands.now
-          named p.view.few fits (omega (arith, few.0, p.view.few)) (omega (arith, few.1, p.view.few)),
+      length_page parts names p.view.extent (places_of p.view.places) p.name.now p.origin p.subject p.depot
+          p.demands.now named p.view.few fits (omega (arith, few.0, p.view.few)) (omega (arith, few.1, p.view.few)),
     )

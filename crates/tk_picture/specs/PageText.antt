@@ -4,7 +4,8 @@
 --     path_line path      the cities of a closed line
 --     route_row i k route      the table row of a route
 --     legs_line words      the number of a route, and the lengths of its legs
---     page_text parts f places name origin drawing depot demands      the whole text
+--     names_block names      the names of the nodes
+--     page_text parts names f places name origin drawing depot demands      the whole text
 use Rattle.std.specs.Prelude.{ℕ, ◌-◌, ◌*◌, ◌/◌, ◌==◌, List, [], ◌∷◌, ◌++◌, Option, Some, None, length, slice_get}
 use Rattle.std.specs.Prelude.{map, flat_map, codes, decimal, if◌then◌else◌}
 use Rattle.std.specs.List.{range_with_len}
@@ -16,6 +17,7 @@ use Rattle.tk_distance.specs.PlaneOf.{city_place}
 use Rattle.tk_routes.specs.Instance.{Instance, node_of}
 use Rattle.tk_routes.specs.Routes.{route_length, route_load}
 use Rattle.tk_picture.specs.declared.extent.Extent.{Extent}
+use Rattle.tk_picture.specs.declared.node_names.NodeName.{NodeName}
 use Rattle.tk_picture.specs.declared.page.parts.Parts.{Parts}
 use Rattle.tk_picture.specs.Drawings.{Drawing, Path, SomeRoutes, caption, each_filled, paths_of}
 use Rattle.tk_picture.specs.Names.{shown_name}
@@ -146,18 +148,30 @@ legs_block (SomeRoutes i routes count cost) =
     data_block (codes "legs") (flat_map legs_line (each_filled (route_legs i) 1 routes))
 legs_block _ = []
 
+-- ---- the names of nodes
+
+abbrev pub name_lines : List NodeName → List ℕ
+name_lines names = flat_map (λ name. line (shown_name name.text.items)) names
+
+-- one name on each line; nothing if there are no names
+abbrev pub names_block : List NodeName → List ℕ
+names_block [] = []
+names_block (name ∷ names) =
+    line (codes "<pre id=\"names\" hidden>") ++ name_lines (name ∷ names) ++ line (codes "</pre>")
+
 -- ---- the whole
 
 abbrev pub page_ending : Parts → List ℕ
 page_ending parts = parts.tools.now ++ line (codes "<script>") ++ parts.script.now ++ line (codes "</script>")
 
-abbrev pub page_text : Parts → Extent → List Point → List ℕ → Option PlacesOrigin → Drawing → Option ℕ → List ℕ →
-    List ℕ
-page_text parts f places name origin drawing depot demands =
+abbrev pub page_text : Parts → List NodeName → Extent → List Point → List ℕ → Option PlacesOrigin → Drawing →
+    Option ℕ → List ℕ → List ℕ
+page_text parts names f places name origin drawing depot demands =
     opening parts name origin (length places) drawing
     ++ picture_text f places name origin drawing depot ++ line (codes "</div>")
     ++ table drawing
     ++ data_block (codes "cities") (flat_map (city_line f places demands depot) (range_with_len 1 (length places)))
     ++ data_block (codes "paths") (flat_map path_line (paths_of drawing))
     ++ legs_block drawing
+    ++ names_block names
     ++ page_ending parts

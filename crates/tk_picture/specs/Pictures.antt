@@ -1,5 +1,5 @@
 -- A picture and its text, as contracts see them.
-use Rattle.std.specs.Prelude.{ℕ, List, Option, map}
+use Rattle.std.specs.Prelude.{ℕ, ◌==◌, Bool, true, ◌||◌, List, Option, length, map}
 use Rattle.tk_problem.specs.declared.point.Point.{Point}
 use Rattle.tk_problem.specs.PlacesOf.{places_of}
 use Rattle.tk_problem_text.specs.declared.placed_problem.PlacesOrigin.{PlacesOrigin}
@@ -10,6 +10,7 @@ use Rattle.tk_picture.specs.DrawnRoutes.{RoutesFit}
 use Rattle.tk_picture.specs.PictureText.{picture_text}
 use Rattle.tk_picture.specs.PageText.{page_text}
 use Rattle.tk_picture.specs.declared.extent.Extent.{Extent}
+use Rattle.tk_picture.specs.declared.node_names.NodeNames.{NodeNames}
 use Rattle.tk_picture.specs.declared.page.parts.Parts.{Parts}
 use Rattle.tk_picture.specs.declared.picture.OutputFormat.{OutputFormat}
 use Rattle.tk_picture.specs.declared.picture.OutputFormat.TheVariants as forms
@@ -33,8 +34,8 @@ Fits n (subjects.Routes cvrp routes count cost) = RoutesFit n cvrp routes.now
 abbrev pub form_text : OutputFormat → Extent → List Point → List ℕ → Option PlacesOrigin → Drawing → Option ℕ →
     List ℕ → List ℕ
 form_text forms.Svg f places name origin drawing depot demands = picture_text f places name origin drawing depot
-form_text (forms.Page parts) f places name origin drawing depot demands =
-    page_text parts f places name origin drawing depot demands
+form_text (forms.Page parts names) f places name origin drawing depot demands =
+    page_text parts names.list.now f places name origin drawing depot demands
 
 abbrev pub text_in : OutputFormat → Picture → List ℕ
 text_in form p =
@@ -44,5 +45,10 @@ text_in form p =
 abbrev pub text_of : Picture → List ℕ
 text_of p = text_in forms.Svg p
 
-abbrev pub page_of : Parts → Picture → List ℕ
-page_of parts p = text_in (forms.Page parts) p
+abbrev pub page_of : Parts → NodeNames → Picture → List ℕ
+page_of parts names p = text_in (forms.Page parts names) p
+
+-- a page has a name for each of n nodes, or no names
+abbrev pub names_fit : OutputFormat → ℕ → Bool
+names_fit forms.Svg n = true
+names_fit (forms.Page parts names) n = (length names.list.now == 0) || (length names.list.now == n)

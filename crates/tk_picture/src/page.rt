@@ -8,14 +8,17 @@ ghost use Rattle.tk_picture.specs.Views.{city_count};
 
 mod cities;
 mod legs;
+mod names;
 pub(crate) mod parts;
 mod paths;
 mod table;
 
 use crate::caption::put_caption;
 use crate::name::put_name;
+use crate::node_names::NodeNames;
 use crate::page::cities::put_cities;
 use crate::page::legs::put_leg_lines;
+use crate::page::names::put_names;
 use crate::page::parts::Parts;
 use crate::page::paths::put_paths;
 use crate::page::table::put_table;
@@ -67,10 +70,15 @@ fn put_ending<W: Sink>(pen: &mut Pen<'_, W>, parts: &Parts<'_>)
 }
 
 /// Writes a page.
-pub(crate) fn put_page<W: Sink>(pen: &mut Pen<'_, W>, picture: &Picture<'_>, parts: &Parts<'_>)
+pub(crate) fn put_page<W: Sink>(
+    pen: &mut Pen<'_, W>,
+    picture: &Picture<'_>,
+    parts: &Parts<'_>,
+    names: &NodeNames<'_>,
+)
     requires fits { Fits (city_count picture.now.view) picture.now.subject }
     requires depot { IfSome picture.now.depot (IsCity (city_count picture.now.view)) }
-    ensures { Puts W.Sink pen.old pen.new (page_of parts.now picture.now) }
+    ensures { Puts W.Sink pen.old pen.new (page_of parts.now names.now picture.now) }
 {
     put_opening(pen, picture, parts);
     put_picture(pen, picture);
@@ -79,5 +87,6 @@ pub(crate) fn put_page<W: Sink>(pen: &mut Pen<'_, W>, picture: &Picture<'_>, par
     put_cities(pen, picture);
     put_paths(pen, picture.view.size(), picture.subject);
     put_leg_lines(pen, picture.view.size(), picture.subject);
+    put_names(pen, names);
     put_ending(pen, parts);
 }

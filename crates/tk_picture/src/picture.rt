@@ -14,6 +14,7 @@ use crate::caption::put_title;
 use crate::closed_lines::put_tour;
 use crate::dots::{by_size, put_city_dots, put_depot};
 use crate::extent::Extent;
+use crate::node_names::NodeNames;
 use crate::numbers::{put_halo_start, put_numbers, put_numbers_start};
 use crate::page::parts::Parts;
 use crate::page::put_page;
@@ -41,8 +42,25 @@ pub struct Picture<'a> {
 pub enum OutputFormat<'a> {
     /// SVG.
     Svg,
-    /// An HTML page that has these parts.
-    Page(Parts<'a>),
+    /// An HTML page that has these parts, and in which the nodes have these names, if any.
+    Page(Parts<'a>, NodeNames<'a>),
+}
+
+impl OutputFormat<'_> {
+    ghost use Rattle.std.specs.Prelude.{◌≡◌};
+    ghost use Rattle.tk_picture.specs.Pictures.{names_fit};
+
+    /// Whether it has a name for each of n nodes, or no names.
+    pub fn names_fit(&self, n: u32) -> bool
+        ensures { result ≡ names_fit self.now n }
+    {
+        match self {
+            OutputFormat::Svg => true,
+            OutputFormat::Page(_, names) => {
+                names.list.is_empty() || names.list.len() == n as usize
+            }
+        }
+    }
 }
 
 /// Writes the line with the size of the view.
@@ -166,7 +184,7 @@ fn put_form<W: Sink>(pen: &mut Pen<'_, W>, picture: &Picture<'_>, form: OutputFo
 {
     match form {
         OutputFormat::Svg => put_picture(pen, picture),
-        OutputFormat::Page(parts) => put_page(pen, picture, &parts),
+        OutputFormat::Page(parts, names) => put_page(pen, picture, &parts, &names),
     }
 }
 

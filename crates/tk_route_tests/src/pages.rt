@@ -1,7 +1,13 @@
 //! A page, byte by byte. Pictures are in `tests/cases`.
 
+ghost use Rattle.std.specs.Prelude.{◌≤◌, length};
+
 use crate::given::{expect, expect_bytes};
-use tk_engines::{OutputFormat, Parts, Plotted, RouteVerdict, plot_engine};
+use std::alloc::Global;
+use std::process::Abort;
+use tk_engines::{
+    Fault, NAME_LIMIT, NodeName, NodeNames, OutputFormat, Parts, Plotted, RouteVerdict, plot_engine,
+};
 use tk_text::{FromRead, ToWrite};
 
 /// Two customers on the two sides of a depot, which is the second node.
@@ -82,27 +88,62 @@ M10000,0h0
 1 1 1
 3 2 2
 </script>
+<pre id=\"names\" hidden>
+Emma &amp; Co
+Shop
+&lt;b&gt;
+</pre>
 <p>tools
 <script>
 run();
 </script>
 ";
 
-#[test]
-fn draws_routes_in_a_page(rt: HostRuntime) {
-    let mut drawn = ToWrite::new(Vec::new(rt.alloc()));
-    let mut reported = ToWrite::new(Vec::new(rt.alloc()));
+/// The names of the nodes; no name has more than 1,024 bytes.
+fn names_of(rt: &impl Abort, alloc: Global, texts: &[&[u8]]) -> Vec<NodeName> {
+    let mut names = Vec::new(alloc);
+    for text in texts {
+        expect(rt, text.len() <= NAME_LIMIT);
+        let text = text.to_vec(alloc).expect(rt, "memory for a name");
+        names.push(NodeName { text }).expect(rt, "memory for names");
+    }
+    names
+}
+
+/// Draws the routes in a page with these names. Returns what was drawn, the page, and what was reported.
+fn draw(
+    rt: &impl Abort,
+    alloc: Global,
+    texts: &[&[u8]],
+) -> (Result<Plotted, Fault>, Vec<u8>, Vec<u8>) {
+    let names = names_of(rt, alloc, texts);
+    expect(rt, names.len() <= 100_000);
+    let mut drawn = ToWrite::new(Vec::new(alloc));
+    let mut reported = ToWrite::new(Vec::new(alloc));
     let answer = plot_engine(
-        rt.alloc(),
+        alloc,
         &mut FromRead::new(SHOP),
         &mut FromRead::new(SOLUTION),
         true,
-        OutputFormat::Page(PARTS),
+        OutputFormat::Page(PARTS, NodeNames { list: &names }),
         &mut drawn,
         &mut reported,
     );
+    (answer, drawn.inner, reported.inner)
+}
+
+#[test]
+fn draws_routes_in_a_page(rt: HostRuntime) {
+    let (answer, page, reported) = draw(&rt, rt.alloc(), &[b"Emma & Co", b"Shop", b"<b>"]);
     let valid = RouteVerdict::Valid { routes: 2, cost: 6 };
     expect(&rt, answer == Ok(Plotted::Routes(valid)));
-    expect_bytes(&rt, &drawn.inner, PAGE);
-    expect(&rt, reported.inner.is_empty());
+    expect_bytes(&rt, &page, PAGE);
+    expect(&rt, reported.is_empty());
+}
+
+#[test]
+fn rejects_names_of_other_nodes(rt: HostRuntime) {
+    let (answer, page, reported) = draw(&rt, rt.alloc(), &[b"Emma & Co", b"Shop"]);
+    expect(&rt, answer == Err(Fault::WrongNames(3)));
+    expect(&rt, page.is_empty() && reported.is_empty());
 }

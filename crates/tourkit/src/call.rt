@@ -64,7 +64,8 @@ fn run<'a>(rt: &'a HostRuntime, request: Request<'a>) -> Result<ExitCode, Refusa
             problem,
             claim,
             html,
-        } => plot_command(rt, problem, claim, html),
+            names,
+        } => plot_command(rt, problem, claim, html, names),
         Request::Solve {
             file,
             options,

@@ -37,6 +37,7 @@ impl fmt::Display for Message<'_> {
             }
             Refusal::Initial(_, fault) => write_initial(f, file, fault),
             Refusal::InitialRoutes(_, fault) => write!(f, "{file}: initial solution: {fault}"),
+            Refusal::Names(_, fault) => write!(f, "{file}: {fault}"),
             Refusal::Unfit(_, misfit) => write!(f, "{file}: {}", misfit.words()),
             Refusal::UnfitKey(_, named, misfit) => write_unfit_key(f, file, named, misfit),
             Refusal::Option(option, kind) => write!(f, "{option}: {kind}"),

@@ -1,4 +1,5 @@
 //! Why a command stops.
+use crate::names::NamesFault;
 use crate::printed::Unprinted;
 use std::alloc::AllocError;
 use tk_command_line::NoRequest;
@@ -33,6 +34,8 @@ pub enum Refusal<'a> {
     Initial(&'a str, TourFault),
     /// The initial solution in the file has this fault.
     InitialRoutes(&'a str, RouteFault),
+    /// The file of names has this fault.
+    Names(&'a str, NamesFault),
     /// The file does not fit the command.
     Unfit(&'a str, Misfit),
     /// The key or the option with this name does not fit the problem file or the parameter file.
@@ -87,6 +90,7 @@ impl<'a> Refusal<'a> {
             Fault::NotForType(key) => Refusal::UnfitKey(file, key.word(), KeyMisfit::Type),
             Fault::TooLarge => Refusal::Unfit(file, Misfit::TooLarge),
             Fault::NoPlaces => Refusal::Unfit(file, Misfit::NoPlaces),
+            Fault::WrongNames(nodes) => Refusal::Names(file, NamesFault::WrongCount(nodes)),
             Fault::Write(_) => Refusal::Unwritten,
         }
     }
@@ -113,6 +117,7 @@ impl<'a> Refusal<'a> {
             | Refusal::ProblemForParameters(file, _)
             | Refusal::Initial(file, _)
             | Refusal::InitialRoutes(file, _)
+            | Refusal::Names(file, _)
             | Refusal::Unfit(file, _)
             | Refusal::UnfitKey(file, _, _) => Some(file),
             _ => None,
@@ -126,6 +131,7 @@ impl<'a> Refusal<'a> {
             Refusal::Text(_, fault) => status_of_text(fault.kind),
             Refusal::Parameters(_, fault) => status_of_parameters(fault.kind),
             Refusal::Unopened(_)
+            | Refusal::Names(_, NamesFault::Read)
             | Refusal::Unwritten
             | Refusal::UnwrittenButKept(_)
             | Refusal::NoMemory => SYSTEM,

@@ -7,10 +7,12 @@ use clap::ArgMatches;
 use clap::builder::ValueParser;
 
 /// The text at the end of `plot --help`.
-const HELP: &str = "Reads PROBLEM and TOUR or SOLUTION; one of them may be -, for standard input.
+const HELP: &str =
+    "Reads PROBLEM, TOUR or SOLUTION, and FILE; one of them may be -, for standard input.
 Prints a picture as SVG: the cities, the tour or the routes, and the depot of a CVRP.
 With --html, prints a self-contained HTML page: a picture to zoom and pan, the number, coordinates and demand of each
-city, and a table of the routes.
+city, and a table of the routes. With --names, it also shows their names. The first row of FILE names its columns, and
+each node has a row after it, in the order of the numbers.
 The cities of a PROBLEM with explicit weights are drawn where DISPLAY_DATA_SECTION, or else NODE_COORD_SECTION, places
 them.
 The second file is checked first. If it is not a tour of PROBLEM, or its routes are not valid, nothing is drawn,
@@ -19,15 +21,17 @@ and standard error gets what check or checksol would print.
 Exit status:
   0  the picture or the page was printed
   1  TOUR is not a tour of PROBLEM, or the routes of SOLUTION are not valid
-  2  the arguments are wrong, a file is invalid, or PROBLEM has explicit weights and no coordinates
+  2  the arguments are wrong, a file is invalid, PROBLEM has explicit weights and no coordinates, or FILE does not have
+     one name for each node
   3  a file cannot be read, output cannot be written, or memory has run out
 
 Examples:
   tourkit plot examples/tri.tsp examples/tri.tour >tri.svg
-  tourkit plot --html examples/bakery.vrp examples/bakery-plan.sol >bakery.html";
+  tourkit plot --html examples/bakery.vrp examples/bakery-plan.sol >bakery.html
+  tourkit plot --html --names examples/florist.csv florist.vrp florist.sol >florist.html";
 
 /// The arguments of the subcommand.
-static ARGUMENTS: [Argument; 3] = [
+static ARGUMENTS: [Argument; 4] = [
     PROBLEM,
     Argument {
         name: "TOUR | SOLUTION",
@@ -40,6 +44,12 @@ static ARGUMENTS: [Argument; 3] = [
         help: "print an HTML page instead of an SVG picture",
         syntax: Syntax::Flag,
         values: ValueParser::Bool,
+    },
+    Argument {
+        name: "names",
+        help: "show the names in column 'name' of the CSV file FILE on the page",
+        syntax: Syntax::Long("FILE"),
+        values: ValueParser::String,
     },
 ];
 
@@ -61,5 +71,6 @@ pub fn request<'a>(words: &ArgMatches<'a>) -> Option<Request<'a>> {
         problem: words.get_str("PROBLEM")?,
         claim: words.get_str("TOUR | SOLUTION"),
         html: words.get_flag("html"),
+        names: words.get_str("names"),
     })
 }

@@ -1,5 +1,5 @@
 //! The picture of a problem, with a tour or routes of it.
-ghost use Rattle.std.specs.Prelude.{◌≡◌, ◌⊎◌, IfErr, IfNone, IfSome, OnErr, None, Some, map, option_map};
+ghost use Rattle.std.specs.Prelude.{◌≡◌, ◌⊎◌, IfErr, IfNone, IfOk, IfSome, OnErr, None, Some, map, option_map};
 ghost use Rattle.tk_problem_text.specs.ProblemOf.{problem_is};
 ghost use Rattle.tk_writers.specs.Puts.{Writes};
 ghost use Rattle.tk_writers.specs.Sinks.{IsBroken};
@@ -12,7 +12,8 @@ ghost use Rattle.tk_engines.specs.Engine.{AtWrite, BeforeSecond, EndsByProblem, 
 ghost use Rattle.tk_engines.specs.Engine.{UnlessWrite};
 ghost use Rattle.tk_picture.specs.Pictures.{Fits, drawing_of};
 ghost use Rattle.tk_engines.specs.declared.fault.Fault.TheVariants.{NoPlaces};
-ghost use Rattle.tk_engines.specs.Plot.{AreUntouched, WritesOutput, WritesSome, demands_in, origin_of, without_places};
+ghost use Rattle.tk_engines.specs.Plot.{AreUntouched, WritesOutput, WritesSome, demands_in, origin_of, undrawable};
+ghost use Rattle.tk_engines.specs.Plot.{without_places};
 ghost use Rattle.tk_engines.specs.Plot.{ArePointsOf, IsPicture, IsRouteOutput, IsTourOutput, IsViewOf};
 ghost use Rattle.tk_engines.specs.Plot.{Plots, PlotsClaim, ReadsClaim, plot_task};
 
@@ -64,14 +65,23 @@ fn points_of(placed: &PlacedProblem) -> Option<&Points>
     }
 }
 
-/// A view of all cities of a problem; `None` if they have no places.
-fn view_of(placed: &PlacedProblem) -> Option<View<'_>>
-    ensures some { IfSome result (IsViewOf placed.now.places (problem_is placed.now.problem)) }
-    ensures none { IfNone result
-        (without_places (problem_is placed.now.problem).weights placed.now.places ≡ Some NoPlaces) }
+/// A view of all cities of a problem, to draw it in a format.
+///
+/// # Errors
+/// `NoPlaces` if the cities have no places, or `WrongNames` if the format has names, but not one for each city.
+fn view_of<'a>(placed: &'a PlacedProblem, form: &OutputFormat<'_>) -> Result<View<'a>, Fault>
+    ensures view { IfOk result (IsViewOf form.now placed.now.places (problem_is placed.now.problem)) }
+    ensures misfit { IfErr result (λ fault.
+        undrawable form.now placed.now.places (problem_is placed.now.problem) ≡ Some fault) }
 {
-    let points = points_of(placed)?;
-    Some(View::over(points.places()))
+    let Some(points) = points_of(placed) else {
+        return Err(Fault::NoPlaces);
+    };
+    let n = placed.problem.n;
+    if !form.names_fit(n) {
+        return Err(Fault::WrongNames(n));
+    }
+    Ok(View::over(points.places()))
 }
 
 /// The section that has the places of the cities, if the distances do not depend on them.
@@ -111,7 +121,7 @@ fn draw<W: Sink>(
     subject: Subject<'_>,
     form: &OutputFormat<'_>,
 ) -> Result<(), WriteFault>
-    requires view { IsViewOf placed.now.places (problem_is placed.now.problem) view.now }
+    requires view { IsViewOf form.now placed.now.places (problem_is placed.now.problem) view.now }
     requires fits { Fits placed.now.problem.n subject }
     ensures text { WritesSome
         (IsPicture form.now placed.now.places (problem_is placed.now.problem) (drawing_of subject.entry))
@@ -131,7 +141,7 @@ fn show_tour<W: Sink, T: Sink>(
     verdict: Verdict,
     form: &OutputFormat<'_>,
 ) -> Result<(), WriteFault>
-    requires view { IsViewOf placed.now.places (problem_is placed.now.problem) view.now }
+    requires view { IsViewOf form.now placed.now.places (problem_is placed.now.problem) view.now }
     requires verdict { IsVerdict placed.now.problem.n cities.now verdict }
     ensures text { WritesSome
         (IsTourOutput form.now placed.now.places (problem_is placed.now.problem) cities.now verdict)
@@ -158,7 +168,7 @@ fn show_routes<W: Sink, T: Sink>(
     verdict: RouteVerdict,
     form: &OutputFormat<'_>,
 ) -> Result<(), WriteFault>
-    requires view { IsViewOf placed.now.places (problem_is placed.now.problem) view.now }
+    requires view { IsViewOf form.now placed.now.places (problem_is placed.now.problem) view.now }
     requires instance { IsInstanceOf placed.now.problem (instance_of cvrp.now) }
     requires verdict { IsRouteVerdict (instance_of cvrp.now) (map (λ r. r.items) solution.now.routes.items)
         solution.now.cost verdict }
@@ -191,7 +201,7 @@ fn plot_tour<C: Source, W: Sink, T: Sink>(
     out: &mut W,
     reported: &mut T,
 ) -> Result<Plotted, Fault>
-    requires view { IsViewOf placed.now.places (problem_is placed.now.problem) view.now }
+    requires view { IsViewOf form.now placed.now.places (problem_is placed.now.problem) view.now }
     requires tsp { placed.now.problem.routing ≡ None }
     ensures { PlotsClaim C.Source W.Sink T.Sink form.now placed.now.places (problem_is placed.now.problem)
         (claim.old, out.old, reported.old) (claim.new, out.new, reported.new) result }
@@ -221,7 +231,7 @@ fn plot_routes<C: Source, W: Sink, T: Sink>(
     out: &mut W,
     reported: &mut T,
 ) -> Result<Plotted, Fault>
-    requires view { IsViewOf placed.now.places (problem_is placed.now.problem) view.now }
+    requires view { IsViewOf form.now placed.now.places (problem_is placed.now.problem) view.now }
     requires instance { IsInstanceOf placed.now.problem (instance_of cvrp.now) }
     ensures { PlotsClaim C.Source W.Sink T.Sink form.now placed.now.places (problem_is placed.now.problem)
         (claim.old, out.old, reported.old) (claim.new, out.new, reported.new) result }
@@ -249,7 +259,7 @@ fn plot_claim<C: Source, W: Sink, T: Sink>(
     out: &mut W,
     reported: &mut T,
 ) -> Result<Plotted, Fault>
-    requires view { IsViewOf placed.now.places (problem_is placed.now.problem) view.now }
+    requires view { IsViewOf form.now placed.now.places (problem_is placed.now.problem) view.now }
     ensures { PlotsClaim C.Source W.Sink T.Sink form.now placed.now.places (problem_is placed.now.problem)
         (claim.old, out.old, reported.old) (claim.new, out.new, reported.new) result }
 {
@@ -278,8 +288,9 @@ fn plot_problem<C: Source, W: Sink, T: Sink>(
     ensures failed { IfErr result (AtWrite (IsBroken W.Sink out.new ⊎ IsBroken T.Sink reported.new)) }
     ensures unread { IfErr result (BeforeSecond (IsUnread C.Source claim.old claim.new)) }
 {
-    let Some(view) = view_of(placed) else {
-        return Err(Fault::NoPlaces);
+    let view = match view_of(placed, form) {
+        Ok(view) => view,
+        Err(fault) => return Err(fault),
     };
     if !has_claim {
         let Err(fault) = draw(out, placed, &view, Subject::Cities, form) else {
@@ -298,7 +309,8 @@ fn plot_problem<C: Source, W: Sink, T: Sink>(
 ///
 /// # Errors
 /// The fault of either text, including that of its display data, or of a write, or `NoMemory` if memory runs out;
-/// `NoPlaces` if the problem has explicit weights and its text does not place the cities.
+/// `NoPlaces` if the problem has explicit weights and its text does not place the cities; `WrongNames` if the page has
+/// names, but not one for each node.
 pub fn plot_engine<P: Source, C: Source, W: Sink, T: Sink>(
     alloc: Global,
     problem: &mut P,

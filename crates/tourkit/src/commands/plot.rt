@@ -1,14 +1,19 @@
 //! The subcommand `plot`.
+ghost use Rattle.std.specs.Prelude.{◌≤◌, length};
+ghost use Rattle.tk_problem.specs.declared.limits.TheConstants.{CITY_LIMIT};
+
 use crate::commands::{check, checksol};
 use crate::input::{open, open_two};
+use crate::names::names_in;
 use crate::refusal::Refusal;
 use std::process::ExitCode;
-use tk_engines::{OutputFormat, Plotted, plot_engine};
+use tk_engines::{NodeName, NodeNames, OutputFormat, Plotted, plot_engine};
 use tk_page::page_parts;
 use tk_words::{FromRead, Source};
 use tk_writers::ToWrite;
 
-/// `plot PROBLEM [TOUR | SOLUTION] [--html]`. Both files are opened before either is read.
+/// `plot PROBLEM [TOUR | SOLUTION] [--html [--names FILE]]`. The names are read first, and then both files are opened
+/// before either is read.
 ///
 /// # Errors
 /// Why it stopped.
@@ -17,12 +22,37 @@ pub fn plot_command<'a>(
     problem_file: &'a str,
     claim_file: Option<&'a str>,
     html: bool,
+    names_file: Option<&'a str>,
 ) -> Result<ExitCode, Refusal<'a>> {
-    let form = if html {
-        OutputFormat::Page(page_parts())
+    let Some(names_file) = names_file else {
+        return plot_in(rt, problem_file, claim_file, format_of(html, &[]));
+    };
+    let names = names_in(rt, names_file)?;
+    match plot_in(rt, problem_file, claim_file, format_of(html, &names)) {
+        // the refusal of an engine names the problem file, since the engine knows no files
+        Err(Refusal::Names(_, fault)) => Err(Refusal::Names(names_file, fault)),
+        ended => ended,
+    }
+}
+
+/// The format of a picture, in which the nodes have these names.
+fn format_of(html: bool, names: &[NodeName]) -> OutputFormat<'_>
+    requires few { length names.now ≤ CITY_LIMIT }
+{
+    if html {
+        OutputFormat::Page(page_parts(), NodeNames { list: names })
     } else {
         OutputFormat::Svg
-    };
+    }
+}
+
+/// `plot PROBLEM [TOUR | SOLUTION]` in a format.
+fn plot_in<'a>(
+    rt: &HostRuntime,
+    problem_file: &'a str,
+    claim_file: Option<&'a str>,
+    form: OutputFormat<'_>,
+) -> Result<ExitCode, Refusal<'a>> {
     let Some(claim_file) = claim_file else {
         return plot_alone(rt, problem_file, form);
     };

@@ -29,7 +29,7 @@ _tourkit_options() {
         info) _tourkit_words "--json -h --help" ;;
         matrix) _tourkit_words "--json -h --help" ;;
         near) _tourkit_words "-k --json -h --help" ;;
-        plot) _tourkit_words "--html -h --help" ;;
+        plot) _tourkit_words "--html --names -h --help" ;;
         solve) _tourkit_words "-o --output --trials --seconds --candidates --runs --seed --or-segment --construction
             --final-sweep --initial-tour --initial-solution --vehicles --within-routes --progress --log --json -h --help" ;;
     esac
@@ -73,7 +73,7 @@ _tourkit() {
         *:-k:* | *:--trials:* | *:--seconds:* | *:--candidates:* | *:--runs:* | *:--seed:* | *:--vehicles:*) ;;
         *:--or-segment:*) _tourkit_words "1 2 3" ;;
         *:--construction:*) _tourkit_words "nearest savings" ;;
-        *:-o:* | *:--output:* | *:--log:* | *:--initial-tour:* | *:--initial-solution:* | *:*[\<\>]:*) _tourkit_files ;;
+        *:-o:* | *:--output:* | *:--log:* | *:--names:* | *:--initial-tour:* | *:--initial-solution:* | *:*[\<\>]:*) _tourkit_files ;;
         *:*:-*) _tourkit_options ;;
         *) _tourkit_arguments ;;
     esac
@@ -152,6 +152,7 @@ _tourkit() {
         (plot)
             _arguments -s $help \
                 '--html[print an HTML page instead of an SVG picture]' \
+                "--names=[show the names in column 'name' of the CSV file FILE on the page]:CSV file:_files" \
                 '1:problem:_files' '2:tour or solution:_files'
             ;;
         (solve)
@@ -224,6 +225,8 @@ complete -c tourkit -n '__fish_seen_subcommand_from near' -s k -x -d 'length of 
 complete -c tourkit -n '__fish_seen_subcommand_from near' -l json -d 'print one JSON object instead of text'
 
 complete -c tourkit -n '__fish_seen_subcommand_from plot' -l html -d 'print an HTML page instead of an SVG picture'
+complete -c tourkit -n '__fish_seen_subcommand_from plot' -l names -r -F \
+    -d "show the names in column 'name' of the CSV file FILE on the page"
 
 complete -c tourkit -n '__fish_seen_subcommand_from solve' -s o -l output -r -F \
     -d 'write the best tour, or the routes of a CVRP, to FILE'

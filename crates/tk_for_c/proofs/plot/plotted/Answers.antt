@@ -17,5 +17,6 @@ pub returns-in-Err-clause-err : goal.returns-in-Err-clause-err
 returns-in-Err-clause-err c =
     plot_stop from_memory c.new-problem.result c.plot_engine.new.problem from_memory c.new-claim.result
     c.plot_engine.new.claim to_memory c.new-out.result c.plot_engine.new.out to_memory c.new-reported.result
-    c.plot_engine.new.reported _ c.in-Err.ensures.ends.0 _ _ _ (ap (λ v. Some v.now) c.new-problem.ensures.inner)
-    (ap (λ v. Some v.now) c.new-claim.ensures.inner) c.in-Err.fault c.in-Err.ensures.ends.1
+    c.plot_engine.new.reported _ c.requires.names c.in-Err.ensures.ends.0 _ _ _
+    (ap (λ v. Some v.now) c.new-problem.ensures.inner) (ap (λ v. Some v.now) c.new-claim.ensures.inner)
+    c.in-Err.fault c.in-Err.ensures.ends.1
