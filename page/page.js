@@ -215,6 +215,7 @@ const isZoomed = () => view.scale < 0.999 * wholeScale();
 function follow() {
     placeTip();
     stage.classList.toggle('zoomed', isZoomed());
+    announce('view', isWhole ? null : { x: view.x + width * view.scale / 2, y: view.y + height * view.scale / 2, scale: view.scale });
 }
 
 // Sets the view, and keeps its centre within the picture.
@@ -305,6 +306,7 @@ function show(city) {
     shown = city;
     if (city > 0) tip.textContent = wordsOf(city).join('\n');
     placeTip();
+    announce('city', city);
 }
 
 // Shows a city that was selected by keys: moves the view to it, and announces it.
@@ -567,6 +569,28 @@ stage.addEventListener('wheel', event => {
     const turned = clamp(-200, event.deltaY * (lines ? 30 : 1) * (event.ctrlKey ? 7 : 1), 200);     // Ctrl: two fingers on a touchpad
     zoomAt(...pixelsOf(event), Math.exp(turned * 0.0015));
 }, { passive: false });
+
+// ---- the page of another tour or solution next to this one
+
+let isLed = false;              // whether the other page makes the change
+
+// Announces the centre and the scale of the view, which are null for the whole picture, or the selected city.
+function announce(kind, detail) {
+    if (!isLed) stage.dispatchEvent(new CustomEvent(kind, { detail }));
+}
+
+function followOther(kind, change) {
+    stage.addEventListener(`other-${kind}`, event => {
+        isLed = true;
+        change(event.detail);
+        isLed = false;
+    });
+}
+
+followOther('city', show);
+followOther('view', other => {
+    if (other === null) showWhole(); else moveTo(other.x - width * other.scale / 2, other.y - height * other.scale / 2, other.scale);
+});
 
 // ---- resizing and printing
 

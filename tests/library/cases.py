@@ -69,7 +69,7 @@ class Case:
         """Returns whether the package has a function for the arguments."""
         if self.command == "explain" and not (self.folder / "in" / self.words[1]).is_file():
             return False  # the name of a fault, or standard input, whose name would be another
-        several = self.command in ("check", "checksol") and len(self.files()) > 2
+        several = self.command in ("check", "checksol", "plot") and len(self.files()) > 2
         return self.command in CALLS and not several and not OF_THE_COMMAND & set(self.words) and not OF_THE_PROGRAM.search(self.stderr)
 
     def files(self):

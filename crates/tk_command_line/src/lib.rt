@@ -13,5 +13,5 @@ mod tips;
 
 pub use completions::Shell;
 pub use parsing::{NoRequest, parse};
-pub use request::{DisplayOptions, Request, STANDARD};
+pub use request::{DisplayOptions, PlotFiles, Request, STANDARD};
 pub use search_options::SearchOptions;

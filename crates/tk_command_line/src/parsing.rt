@@ -2,7 +2,7 @@
 
 use crate::command::{refused, tourkit};
 use crate::completions;
-use crate::request::{Request, STANDARD};
+use crate::request::{PlotFiles, Request, STANDARD};
 use crate::search_options::SearchOptions;
 use crate::subcommand::Kind;
 use crate::subcommands::{check, checksol, explain, info, matrix, named, near, plot, solve};
@@ -36,6 +36,9 @@ const NO_SECONDS: &str = "the argument '--seconds <N>' cannot be used with '--wi
 
 /// The message if names of nodes were given, but no page to show them in was requested.
 const NO_PAGE: &str = "the argument '--names <FILE>' needs '--html'";
+
+/// The message if two tours or solutions were given, but no page to show them in was requested.
+const NO_PAGE_OF_TWO: &str = "the argument '[OTHER]' needs '--html'";
 
 /// Why there is no request.
 pub enum NoRequest {
@@ -110,17 +113,7 @@ fn misfit(request: &Request<'_>) -> Option<&'static str> {
             solutions,
             ..
         } => twice_standard(*problem, solutions),
-        Request::Plot {
-            names: Some(_),
-            html: false,
-            ..
-        } => Some(NO_PAGE),
-        Request::Plot {
-            problem,
-            claim,
-            names,
-            ..
-        } => twice_standard(*problem, &[claim.unwrap_or(""), names.unwrap_or("")]),
+        Request::Plot { files, html } => plot_misfit(files, *html),
         Request::Solve { shown, .. } if shown.log == Some(STANDARD) => Some(STANDARD_LOG),
         Request::Solve {
             file,
@@ -129,6 +122,22 @@ fn misfit(request: &Request<'_>) -> Option<&'static str> {
         } => search_misfit(*file, options),
         _ => None,
     }
+}
+
+/// The message about files of `plot` that cannot be combined, or that need a page.
+fn plot_misfit(files: &PlotFiles<'_>, html: bool) -> Option<&'static str> {
+    if !html && files.names.is_some() {
+        return Some(NO_PAGE);
+    }
+    if !html && files.other.is_some() {
+        return Some(NO_PAGE_OF_TWO);
+    }
+    let others = [
+        files.claim.unwrap_or(""),
+        files.other.unwrap_or(""),
+        files.names.unwrap_or(""),
+    ];
+    twice_standard(files.problem, &others)
 }
 
 /// The message if a problem file and others contain standard input twice.

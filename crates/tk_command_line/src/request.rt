@@ -49,12 +49,10 @@ pub enum Request<'a> {
         length: ListLength,
         json: bool,
     },
-    /// `plot PROBLEM [TOUR | SOLUTION] [--html [--names FILE]]`
+    /// `plot PROBLEM [TOUR | SOLUTION] [OTHER] [--html [--names FILE]]`
     Plot {
-        problem: &'a str,
-        claim: Option<&'a str>,
+        files: PlotFiles<'a>,
         html: bool,
-        names: Option<&'a str>,
     },
     /// `solve PARAMETERS [--progress] [--log FILE] [--json]`, or `solve PROBLEM` with search options
     Solve {
@@ -77,6 +75,18 @@ impl Request<'_> {
             Request::Completions { .. } | Request::Explain { .. } | Request::Plot { .. } => false,
         }
     }
+}
+
+/// The files that `plot` reads.
+#[derive(Clone, Copy)]
+pub struct PlotFiles<'a> {
+    pub problem: &'a str,
+    /// The tour or the solution.
+    pub claim: Option<&'a str>,
+    /// `OTHER`: the tour or the solution that it is compared with.
+    pub other: Option<&'a str>,
+    /// `--names`: the names of the nodes.
+    pub names: Option<&'a str>,
 }
 
 /// The display options of `solve`.

@@ -17,7 +17,7 @@ pub use engines::check::{check_engine, tour_outcome, tour_outcome_of};
 pub use engines::info::{info_engine, info_outcome};
 pub use engines::matrix::{matrix_engine, matrix_outcome, write_matrix_of};
 pub use engines::near::{near_engine, near_outcome, write_near_lists};
-pub use engines::plot::plot_engine;
+pub use engines::plot::{plot_engine, plot_problem};
 pub use engines::plotted::Plotted;
 pub use engines::route_check::{route_check_engine, route_outcome, route_outcome_of};
 pub use engines::search::{search_outcome, search_problem};

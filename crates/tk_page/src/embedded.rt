@@ -6,7 +6,7 @@ pub static HEAD: &[u8] = br#"<!DOCTYPE html>
 <head>
 <meta charset="utf-8">
 <meta name="viewport" content="width=device-width, initial-scale=1">
-<meta http-equiv="Content-Security-Policy" content="default-src 'none'; style-src 'sha256-gGm10sySgcp9KZrIksfexZcOJFc8nacuq2AlfpHIcYo='; script-src 'sha256-Z/pLvcwul8wbLiFNkGN1XgTIblYRg+8yiedpFCHWrlI='">
+<meta http-equiv="Content-Security-Policy" content="default-src 'none'; style-src 'sha256-Bv0KUo0n9DROO1YUM6wefaDN1/Qu5OX1ij+z5QTrKcI='; script-src 'sha256-v5eEdkUXJ2t+TyxtgVVUfSNGX+K9l66tZ6NkBIrY8zk='">
 <style>
 "#;
 
@@ -30,6 +30,7 @@ body {
     font: 1rem/1.4 system-ui, sans-serif;
 }
 h1 { margin: 0; font-size: 1.3rem; overflow-wrap: anywhere; }
+.framed h1 { display: none; }
 p { margin: .2rem 0 .5rem; }
 :focus-visible { outline: 3px solid var(--focus); outline-offset: 1px; }
 button, input { font: inherit; color: inherit; background: var(--paper); border: 1px solid var(--edge); border-radius: .3rem; }
@@ -59,6 +60,10 @@ button, input { font: inherit; color: inherit; background: var(--paper); border:
 .faded .depot-lines polyline { stroke-opacity: .1; }
 .faded g text:not(.chosen) { opacity: .2; }
 .live svg #lit { stroke-width: calc((var(--line) + 1.5) * 10px * var(--scale)); }
+/* Next to another tour or solution: the legs that the other does not have, over those that both have. */
+.live svg #differing { stroke: #d0006f; stroke-width: calc((var(--line) + 1) * 10px * var(--scale)); }
+.compared polygon:not(#lit), .compared polyline { stroke-opacity: .25; }
+.faded #differing { stroke-opacity: .2; }
 
 #mark {
     position: absolute; left: 0; top: 0; width: 20px; height: 20px; margin: -10px; pointer-events: none;
@@ -380,6 +385,7 @@ const isZoomed = () => view.scale < 0.999 * wholeScale();
 function follow() {
     placeTip();
     stage.classList.toggle('zoomed', isZoomed());
+    announce('view', isWhole ? null : { x: view.x + width * view.scale / 2, y: view.y + height * view.scale / 2, scale: view.scale });
 }
 
 // Sets the view, and keeps its centre within the picture.
@@ -470,6 +476,7 @@ function show(city) {
     shown = city;
     if (city > 0) tip.textContent = wordsOf(city).join('\n');
     placeTip();
+    announce('city', city);
 }
 
 // Shows a city that was selected by keys: moves the view to it, and announces it.
@@ -732,6 +739,28 @@ stage.addEventListener('wheel', event => {
     const turned = clamp(-200, event.deltaY * (lines ? 30 : 1) * (event.ctrlKey ? 7 : 1), 200);     // Ctrl: two fingers on a touchpad
     zoomAt(...pixelsOf(event), Math.exp(turned * 0.0015));
 }, { passive: false });
+
+// ---- the page of another tour or solution next to this one
+
+let isLed = false;              // whether the other page makes the change
+
+// Announces the centre and the scale of the view, which are null for the whole picture, or the selected city.
+function announce(kind, detail) {
+    if (!isLed) stage.dispatchEvent(new CustomEvent(kind, { detail }));
+}
+
+function followOther(kind, change) {
+    stage.addEventListener(`other-${kind}`, event => {
+        isLed = true;
+        change(event.detail);
+        isLed = false;
+    });
+}
+
+followOther('city', show);
+followOther('view', other => {
+    if (other === null) showWhole(); else moveTo(other.x - width * other.scale / 2, other.y - height * other.scale / 2, other.scale);
+});
 
 // ---- resizing and printing
 

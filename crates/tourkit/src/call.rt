@@ -60,12 +60,7 @@ fn run<'a>(rt: &'a HostRuntime, request: Request<'a>) -> Result<ExitCode, Refusa
             length,
             json,
         } => near_command(rt, problem, length, json),
-        Request::Plot {
-            problem,
-            claim,
-            html,
-            names,
-        } => plot_command(rt, problem, claim, html, names),
+        Request::Plot { files, html } => plot_command(rt, files, html),
         Request::Solve {
             file,
             options,

@@ -7,6 +7,7 @@ pub mod info;
 pub mod matrix;
 pub mod near;
 pub mod plot;
+pub mod plot_both;
 pub mod solve;
 pub mod solve_options;
 pub mod solve_outcome;

@@ -1,2 +1,3 @@
 //! Files of the repository that the program prints.
+pub mod compare;
 pub mod completions;

@@ -269,9 +269,11 @@ fn plot_claim<C: Source, W: Sink, T: Sink>(
     }
 }
 
-/// Draws a problem, with the tour or the routes of another text if there is one, or writes the line with their fault to
-/// `reported`.
-fn plot_problem<C: Source, W: Sink, T: Sink>(
+/// Draws a problem that has been read. Otherwise like `plot_engine`.
+///
+/// # Errors
+/// Those of `plot_engine`, except a fault of the problem.
+pub fn plot_problem<C: Source, W: Sink, T: Sink>(
     alloc: Global,
     placed: &PlacedProblem,
     claim: &mut C,

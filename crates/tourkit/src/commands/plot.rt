@@ -2,33 +2,32 @@
 ghost use Rattle.std.specs.Prelude.{◌≤◌, length};
 ghost use Rattle.tk_problem.specs.declared.limits.TheConstants.{CITY_LIMIT};
 
+use crate::commands::plot_both::plot_both;
 use crate::commands::{check, checksol};
 use crate::input::{open, open_two};
 use crate::names::names_in;
 use crate::refusal::Refusal;
 use std::process::ExitCode;
+use tk_command_line::PlotFiles;
 use tk_engines::{NodeName, NodeNames, OutputFormat, Plotted, plot_engine};
 use tk_page::page_parts;
 use tk_words::{FromRead, Source};
 use tk_writers::ToWrite;
 
-/// `plot PROBLEM [TOUR | SOLUTION] [--html [--names FILE]]`. The names are read first, and then both files are opened
-/// before either is read.
+/// `plot PROBLEM [TOUR | SOLUTION] [OTHER] [--html [--names FILE]]`. The names are read first.
 ///
 /// # Errors
 /// Why it stopped.
 pub fn plot_command<'a>(
     rt: &HostRuntime,
-    problem_file: &'a str,
-    claim_file: Option<&'a str>,
+    files: PlotFiles<'a>,
     html: bool,
-    names_file: Option<&'a str>,
 ) -> Result<ExitCode, Refusal<'a>> {
-    let Some(names_file) = names_file else {
-        return plot_in(rt, problem_file, claim_file, format_of(html, &[]));
+    let Some(names_file) = files.names else {
+        return plot_in(rt, files, format_of(html, &[]));
     };
     let names = names_in(rt, names_file)?;
-    match plot_in(rt, problem_file, claim_file, format_of(html, &names)) {
+    match plot_in(rt, files, format_of(html, &names)) {
         // the refusal of an engine names the problem file, since the engine knows no files
         Err(Refusal::Names(_, fault)) => Err(Refusal::Names(names_file, fault)),
         ended => ended,
@@ -46,16 +45,27 @@ fn format_of(html: bool, names: &[NodeName]) -> OutputFormat<'_>
     }
 }
 
-/// `plot PROBLEM [TOUR | SOLUTION]` in a format.
+/// Draws the files in a format.
 fn plot_in<'a>(
     rt: &HostRuntime,
-    problem_file: &'a str,
-    claim_file: Option<&'a str>,
+    files: PlotFiles<'a>,
     form: OutputFormat<'_>,
 ) -> Result<ExitCode, Refusal<'a>> {
-    let Some(claim_file) = claim_file else {
-        return plot_alone(rt, problem_file, form);
-    };
+    match (files.claim, files.other) {
+        (Some(first), Some(second)) => plot_both(rt, files.problem, first, second, &form),
+        (Some(claim), None) => plot_claim(rt, files.problem, claim, form),
+        (None, _) => plot_alone(rt, files.problem, form),
+    }
+}
+
+/// `plot PROBLEM TOUR`, with or without `--html`, or the same for a solution. Both files are opened before either is
+/// read.
+fn plot_claim<'a>(
+    rt: &HostRuntime,
+    problem_file: &'a str,
+    claim_file: &'a str,
+    form: OutputFormat<'_>,
+) -> Result<ExitCode, Refusal<'a>> {
     let (problem, claim) = open_two(rt, problem_file, claim_file)?;
     draw(
         rt,
@@ -113,7 +123,7 @@ fn draw<'a, P: Source, C: Source>(
 }
 
 /// The exit status: 1 if the tour or the routes have a fault, otherwise 0.
-fn status_of(plotted: Plotted) -> u8 {
+pub fn status_of(plotted: Plotted) -> u8 {
     match plotted {
         Plotted::Cities => 0,
         Plotted::Tour(verdict) => check::status_of(verdict),

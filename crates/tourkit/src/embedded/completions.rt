@@ -153,7 +153,7 @@ _tourkit() {
             _arguments -s $help \
                 '--html[print an HTML page instead of an SVG picture]' \
                 "--names=[show the names in column 'name' of the CSV file FILE on the page]:CSV file:_files" \
-                '1:problem:_files' '2:tour or solution:_files'
+                '1:problem:_files' '2:tour or solution:_files' '3:other tour or solution:_files'
             ;;
         (solve)
             _arguments -s $help \
