@@ -36,7 +36,7 @@ fn is_read_alike(
 }
 
 /// Reads a text at once, byte by byte and in pieces of 7 bytes, and checks that the answers are equal.
-pub fn read<A: Abort>(rt: &A, alloc: Global, text: &[u8]) -> Result<Problem, TextFault> {
+fn read<A: Abort>(rt: &A, alloc: Global, text: &[u8]) -> Result<Problem, TextFault> {
     let mut source = FromRead::new(text);
     let whole = read_problem(alloc, &mut source);
     expect(rt, is_read_alike(alloc, text, 1, &whole));

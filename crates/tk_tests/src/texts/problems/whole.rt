@@ -1,56 +1,10 @@
-//! Problem texts that are accepted, and all beginnings of some of them.
+//! Problem texts that are accepted.
 
-use crate::given::expect;
-use crate::texts::problems::read_both_ways::{accept, accept_each, fault, read};
+use crate::texts::problems::read_both_ways::{accept, accept_each};
 use crate::texts::problems::reported::{Reported, ReportedWeights};
 use std::alloc::Global;
 use std::process::Abort;
-use tk_text::{Keyword, Places, PlaneKind, Point, TextFault, TextKind};
-
-/// Bytes, and the line and the kind of the fault of a text that ends after any of them; `None` if there is no fault.
-type Run = (&'static [u8], Option<(u64, TextKind)>);
-
-/// The fault of an entry of a table.
-fn listed(answer: &Option<(u64, TextKind)>) -> Option<TextFault> {
-    match answer {
-        Some((line, kind)) => fault(*line, *kind),
-        None => None,
-    }
-}
-
-/// Adds these bytes to the text one by one, and checks that the text then has this fault, or none.
-fn grow<A: Abort>(
-    rt: &A,
-    alloc: Global,
-    text: &mut Vec<u8>,
-    bytes: &[u8],
-    wanted: Option<TextFault>,
-) {
-    for byte in bytes {
-        expect(rt, text.push(*byte).is_ok());
-        expect(rt, read(rt, alloc, text).err() == wanted);
-    }
-}
-
-/// Adds the bytes of these runs to the text one by one, and checks its fault after each.
-fn grow_by<A: Abort>(rt: &A, alloc: Global, text: &mut Vec<u8>, runs: &[Run]) {
-    for (bytes, answer) in runs {
-        grow(rt, alloc, text, bytes, listed(answer));
-    }
-}
-
-/// Checks each beginning of the text of these parts, and returns the text.
-fn grown<A: Abort>(rt: &A, alloc: Global, parts: &[&[Run]]) -> Vec<u8> {
-    let mut text = Vec::new(alloc);
-    expect(
-        rt,
-        read(rt, alloc, &text).err() == fault(1, TextKind::Missing(Keyword::Type)),
-    );
-    for runs in parts {
-        grow_by(rt, alloc, &mut text, runs);
-    }
-    text
-}
+use tk_text::{Places, PlaneKind, Point};
 
 const HUB: Point = Point { x: 0, y: 0 };
 
@@ -74,183 +28,13 @@ const FAR_WEST: Point = Point {
     y: 0,
 };
 
-const PLACES: &[Run] = &[
-    (b"NAM", Some((1, TextKind::UnknownKeyword))),
-    (b"E : p", Some((1, TextKind::Missing(Keyword::Type)))),
-    (b"\n", Some((2, TextKind::Missing(Keyword::Type)))),
-    (b"TYP", Some((2, TextKind::UnknownKeyword))),
-    (b"E : TS", Some((2, TextKind::Unsupported))),
-    (b"P", Some((2, TextKind::Missing(Keyword::Dimension)))),
-    (b"\n", Some((3, TextKind::Missing(Keyword::Dimension)))),
-    (b"DIMENSIO", Some((3, TextKind::UnknownKeyword))),
-    (b"N : ", Some((3, TextKind::BadNumber))),
-    (b"3", Some((3, TextKind::Missing(Keyword::EdgeWeightType)))),
-    (b"\n", Some((4, TextKind::Missing(Keyword::EdgeWeightType)))),
-    (b"EDGE_WEIGHT_TYP", Some((4, TextKind::UnknownKeyword))),
-    (b"E : EUC_2", Some((4, TextKind::Unsupported))),
-    (
-        b"D",
-        Some((4, TextKind::Missing(Keyword::NodeCoordSection))),
-    ),
-    (
-        b"\n",
-        Some((5, TextKind::Missing(Keyword::NodeCoordSection))),
-    ),
-    (b"NODE_COORD_SECTIO", Some((5, TextKind::UnknownKeyword))),
-    (b"N", Some((5, TextKind::Truncated))),
-    (b"\n1 0 0", Some((6, TextKind::Truncated))),
-    (b"\n2 3 0", Some((7, TextKind::Truncated))),
-    (b"\n3 0 ", Some((8, TextKind::Truncated))),
-    (b"4\n", None),
-    (b"EO", Some((9, TextKind::UnknownKeyword))),
-    (b"F\njunk", None),
-];
+/// A CVRP with coordinates on both sides of the depot.
+const ROUTING: &[u8] =
+    b"NAME : v\nTYPE : CVRP\nDIMENSION : 5\nEDGE_WEIGHT_TYPE : EUC_2D\nCAPACITY : 2\nNODE_COORD_SECTION\n\
+    1 0 0\n2 10 0\n3 11 0\n4 -10 0\n5 -11 0\nDEMAND_SECTION\n1 0\n2 1\n3 1\n4 1\n5 1\nDEPOT_SECTION\n1\n-1\nEOF\n";
 
 #[test]
-fn beginnings_of_places(rt: HostRuntime) {
-    grown(&rt, rt.alloc(), &[PLACES]);
-}
-
-const WEIGHTS: &[Run] = &[
-    (b"TYP", Some((1, TextKind::UnknownKeyword))),
-    (b"E : TS", Some((1, TextKind::Unsupported))),
-    (b"P", Some((1, TextKind::Missing(Keyword::Dimension)))),
-    (b"\n", Some((2, TextKind::Missing(Keyword::Dimension)))),
-    (b"DIMENSIO", Some((2, TextKind::UnknownKeyword))),
-    (b"N : ", Some((2, TextKind::BadNumber))),
-    (b"3", Some((2, TextKind::Missing(Keyword::EdgeWeightType)))),
-    (b"\n", Some((3, TextKind::Missing(Keyword::EdgeWeightType)))),
-    (b"EDGE_WEIGHT_TYP", Some((3, TextKind::UnknownKeyword))),
-    (b"E : EXPLICI", Some((3, TextKind::Unsupported))),
-    (
-        b"T",
-        Some((3, TextKind::Missing(Keyword::EdgeWeightSection))),
-    ),
-    (
-        b"\n",
-        Some((4, TextKind::Missing(Keyword::EdgeWeightSection))),
-    ),
-    (b"EDGE_WEIGHT_FORMA", Some((4, TextKind::UnknownKeyword))),
-    (b"T : FULL_MATRI", Some((4, TextKind::Unsupported))),
-    (
-        b"X",
-        Some((4, TextKind::Missing(Keyword::EdgeWeightSection))),
-    ),
-    (
-        b"\n",
-        Some((5, TextKind::Missing(Keyword::EdgeWeightSection))),
-    ),
-    (b"EDGE_WEIGHT_SECTIO", Some((5, TextKind::UnknownKeyword))),
-    (b"N", Some((5, TextKind::Truncated))),
-    (b"\n0 3 5", Some((6, TextKind::Truncated))),
-    (b"\n", Some((7, TextKind::Truncated))),
-    (
-        b"4 0 6\n5 6 0\nEOF\n",
-        Some((7, TextKind::NotSymmetric(1, 2))),
-    ),
-];
-
-#[test]
-fn beginnings_of_weights(rt: HostRuntime) {
-    grown(&rt, rt.alloc(), &[WEIGHTS]);
-}
-
-/// A CVRP up to its demands.
-const BEFORE_DEMANDS: &[Run] = &[
-    (b"NAM", Some((1, TextKind::UnknownKeyword))),
-    (b"E : v", Some((1, TextKind::Missing(Keyword::Type)))),
-    (b"\n", Some((2, TextKind::Missing(Keyword::Type)))),
-    (b"TYP", Some((2, TextKind::UnknownKeyword))),
-    (b"E : CVR", Some((2, TextKind::Unsupported))),
-    (b"P", Some((2, TextKind::Missing(Keyword::Dimension)))),
-    (b"\n", Some((3, TextKind::Missing(Keyword::Dimension)))),
-    (b"DIMENSIO", Some((3, TextKind::UnknownKeyword))),
-    (b"N : ", Some((3, TextKind::BadNumber))),
-    (b"5", Some((3, TextKind::Missing(Keyword::EdgeWeightType)))),
-    (b"\n", Some((4, TextKind::Missing(Keyword::EdgeWeightType)))),
-    (b"EDGE_WEIGHT_TYP", Some((4, TextKind::UnknownKeyword))),
-    (b"E : EUC_2", Some((4, TextKind::Unsupported))),
-    (
-        b"D",
-        Some((4, TextKind::Missing(Keyword::NodeCoordSection))),
-    ),
-    (
-        b"\n",
-        Some((5, TextKind::Missing(Keyword::NodeCoordSection))),
-    ),
-    (b"CAPACIT", Some((5, TextKind::UnknownKeyword))),
-    (b"Y : ", Some((5, TextKind::BadNumber))),
-    (
-        b"2",
-        Some((5, TextKind::Missing(Keyword::NodeCoordSection))),
-    ),
-    (
-        b"\n",
-        Some((6, TextKind::Missing(Keyword::NodeCoordSection))),
-    ),
-    (b"NODE_COORD_SECTIO", Some((6, TextKind::UnknownKeyword))),
-    (b"N", Some((6, TextKind::Truncated))),
-    (b"\n1 0 0", Some((7, TextKind::Truncated))),
-    (b"\n2 10 0", Some((8, TextKind::Truncated))),
-    (b"\n3 11 0", Some((9, TextKind::Truncated))),
-    (b"\n4 ", Some((10, TextKind::Truncated))),
-    (b"-", Some((10, TextKind::BadNumber))),
-    (b"10 0", Some((10, TextKind::Truncated))),
-    (b"\n5 ", Some((11, TextKind::Truncated))),
-    (b"-", Some((11, TextKind::BadNumber))),
-    (b"11 ", Some((11, TextKind::Truncated))),
-    (b"0", Some((11, TextKind::Missing(Keyword::DemandSection)))),
-    (b"\n", Some((12, TextKind::Missing(Keyword::DemandSection)))),
-    (b"DEMAND_SECTIO", Some((12, TextKind::UnknownKeyword))),
-    (b"N", Some((12, TextKind::Truncated))),
-    (b"\n1 0", Some((13, TextKind::Truncated))),
-];
-
-/// A CVRP from its second demand to its depot.
-const AFTER_DEMAND: &[Run] = &[
-    (b"\n3 1", Some((15, TextKind::Truncated))),
-    (b"\n4 1", Some((16, TextKind::Truncated))),
-    (b"\n5 ", Some((17, TextKind::Truncated))),
-    (b"1", Some((17, TextKind::Missing(Keyword::DepotSection)))),
-    (b"\n", Some((18, TextKind::Missing(Keyword::DepotSection)))),
-    (b"DEPOT_SECTIO", Some((18, TextKind::UnknownKeyword))),
-    (b"N", Some((18, TextKind::Truncated))),
-    (b"\n", Some((19, TextKind::Truncated))),
-];
-
-/// A CVRP whose demands fit.
-const FITTING: &[&[Run]] = &[
-    BEFORE_DEMANDS,
-    &[(b"\n2 1", Some((14, TextKind::Truncated)))],
-    AFTER_DEMAND,
-    &[
-        (b"1\n", None),
-        (b"-", Some((20, TextKind::BadNumber))),
-        (b"1\n", None),
-        (b"EO", Some((21, TextKind::UnknownKeyword))),
-        (b"F\n", None),
-    ],
-];
-
-/// A CVRP with a demand that is too large.
-const OVERLOADED: &[&[Run]] = &[
-    BEFORE_DEMANDS,
-    &[(b"\n2 3", Some((14, TextKind::Truncated)))],
-    AFTER_DEMAND,
-    &[
-        (b"1", Some((19, TextKind::DemandOverCapacity(2)))),
-        (b"\n", Some((20, TextKind::DemandOverCapacity(2)))),
-        (b"-", Some((20, TextKind::BadNumber))),
-        (b"1", Some((20, TextKind::DemandOverCapacity(2)))),
-        (b"\n", Some((21, TextKind::DemandOverCapacity(2)))),
-        (b"EO", Some((21, TextKind::UnknownKeyword))),
-        (b"F\n", Some((21, TextKind::DemandOverCapacity(2)))),
-    ],
-];
-
-#[test]
-fn beginnings_of_a_routing(rt: HostRuntime) {
-    let text = grown(&rt, rt.alloc(), FITTING);
+fn routing(rt: HostRuntime) {
     let places = Places::Fine(&[HUB, EAST, FAR_EAST, WEST, FAR_WEST]);
     let wanted = Reported {
         name: b"v",
@@ -258,12 +42,7 @@ fn beginnings_of_a_routing(rt: HostRuntime) {
         weights: ReportedWeights::Points(PlaneKind::Euc2d, places),
         routing: Some((2, &[0, 1, 1, 1, 1], 1)),
     };
-    accept(&rt, rt.alloc(), &text, &wanted);
-}
-
-#[test]
-fn beginnings_of_a_load_too_great(rt: HostRuntime) {
-    grown(&rt, rt.alloc(), OVERLOADED);
+    accept(&rt, rt.alloc(), ROUTING, &wanted);
 }
 
 /// A TSP of four cities up to the format of its weights.
