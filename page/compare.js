@@ -4,7 +4,6 @@
 (() => {
 const frames = [...document.querySelectorAll('iframe')];
 const difference = document.getElementById('difference');
-const SHARE = 100;              // per cent
 
 // The legs of closed lines: pairs of cities, and the pair as a number, the same in both directions.
 function legsOf(paths, count) {
@@ -50,7 +49,7 @@ function drawLegs({ page, points }, legs) {
 function wordsOfLengths(first, second) {
     const by = second.length - first.length, costs = first.measure === 'cost';
     if (by === 0) return `Both have the same ${first.measure}.`;
-    const share = first.length === 0 ? '' : ` (${(Math.abs(by) / first.length * SHARE).toFixed(2)} %)`;
+    const share = first.length === 0 ? '' : ` (${(100 * Math.abs(by) / first.length).toFixed(2)} %)`;
     if (costs) return `The second costs ${Math.abs(by)} ${by < 0 ? 'less' : 'more'}${share}.`;
     return `The second is ${Math.abs(by)} ${by < 0 ? 'shorter' : 'longer'}${share}.`;
 }

@@ -110,7 +110,7 @@ fn print_both(rt: &HostRuntime, first: &Drawn<'_>, second: &Drawn<'_>) -> Result
     put_names(&mut pen, first.file, second.file);
     pen.put(b"</title>\n<body>\n<h1>");
     put_names(&mut pen, first.file, second.file);
-    pen.put(b"</h1>\n<p id=\"difference\" role=\"status\"></p>\n<main>\n");
+    pen.put(b"</h1>\n<p id=\"difference\"></p>\n<main>\n");
     put_frame(&mut pen, first);
     put_frame(&mut pen, second);
     pen.put(b"</main>\n<script>\n");

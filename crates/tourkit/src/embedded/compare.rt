@@ -6,7 +6,7 @@ pub static HEAD: &[u8] = br#"<!DOCTYPE html>
 <head>
 <meta charset="utf-8">
 <meta name="viewport" content="width=device-width, initial-scale=1">
-<meta http-equiv="Content-Security-Policy" content="default-src 'none'; style-src 'sha256-fxfFeu2mpxTWmz5csxe1GmDqQRNg2MsMKb4gfjlV96o=' 'sha256-Bv0KUo0n9DROO1YUM6wefaDN1/Qu5OX1ij+z5QTrKcI='; script-src 'sha256-T6vhSmWiK+O3M6JcfA6QzF+5TUqy7Nk+j6J9vcOb+Kw=' 'sha256-v5eEdkUXJ2t+TyxtgVVUfSNGX+K9l66tZ6NkBIrY8zk='">
+<meta http-equiv="Content-Security-Policy" content="default-src 'none'; style-src 'sha256-fxfFeu2mpxTWmz5csxe1GmDqQRNg2MsMKb4gfjlV96o=' 'sha256-Bv0KUo0n9DROO1YUM6wefaDN1/Qu5OX1ij+z5QTrKcI='; script-src 'sha256-eGaEAiYzTfVPB9slab0plYlYK/zoRMbWCpWBYjiCeAQ=' 'sha256-v5eEdkUXJ2t+TyxtgVVUfSNGX+K9l66tZ6NkBIrY8zk='">
 <style>
 "#;
 
@@ -59,7 +59,6 @@ pub static SCRIPT: &[u8] =
 (() => {
 const frames = [...document.querySelectorAll('iframe')];
 const difference = document.getElementById('difference');
-const SHARE = 100;              // per cent
 
 // The legs of closed lines: pairs of cities, and the pair as a number, the same in both directions.
 function legsOf(paths, count) {
@@ -105,7 +104,7 @@ function drawLegs({ page, points }, legs) {
 function wordsOfLengths(first, second) {
     const by = second.length - first.length, costs = first.measure === 'cost';
     if (by === 0) return `Both have the same ${first.measure}.`;
-    const share = first.length === 0 ? '' : ` (${(Math.abs(by) / first.length * SHARE).toFixed(2)} %)`;
+    const share = first.length === 0 ? '' : ` (${(100 * Math.abs(by) / first.length).toFixed(2)} %)`;
     if (costs) return `The second costs ${Math.abs(by)} ${by < 0 ? 'less' : 'more'}${share}.`;
     return `The second is ${Math.abs(by)} ${by < 0 ? 'shorter' : 'longer'}${share}.`;
 }
