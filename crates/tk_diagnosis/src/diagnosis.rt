@@ -19,10 +19,7 @@ use tk_words::TextKind;
 ///
 /// # Errors
 /// `AllocError` if memory runs out.
-pub fn diagnosis_at<'a>(
-    spot: &LineContext<'a>,
-    fault: &FileFault,
-) -> Result<Diagnosis<'a>, AllocError> {
+pub fn diagnosis_at(spot: &LineContext<'_>, fault: &FileFault) -> Result<Diagnosis, AllocError> {
     match fault {
         FileFault::Parameters(fault) => parameters::parameter(spot, fault.kind),
         FileFault::Text(fault) if spot.kind == Kind::Solution => {
@@ -33,7 +30,7 @@ pub fn diagnosis_at<'a>(
 }
 
 /// The diagnosis of a fault of a problem or a tour.
-fn of_text<'a>(spot: &LineContext<'a>, kind: TextKind) -> Result<Diagnosis<'a>, AllocError> {
+fn of_text(spot: &LineContext<'_>, kind: TextKind) -> Result<Diagnosis, AllocError> {
     match kind {
         TextKind::UnknownKeyword => words::unknown(spot),
         TextKind::BadNumber | TextKind::OutOfLimit | TextKind::BadNode => {
@@ -44,7 +41,7 @@ fn of_text<'a>(spot: &LineContext<'a>, kind: TextKind) -> Result<Diagnosis<'a>, 
 }
 
 /// Like `of_text`, for the kinds of faults whose diagnosis takes no memory.
-fn decided<'a>(spot: &LineContext<'a>, kind: TextKind) -> Diagnosis<'a> {
+fn decided(spot: &LineContext<'_>, kind: TextKind) -> Diagnosis {
     match kind {
         TextKind::Repeated => words::repeated(spot),
         TextKind::Missing(word) => missing::missing(spot, word),

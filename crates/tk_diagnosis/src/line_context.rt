@@ -29,17 +29,17 @@ impl<'a> LineContext<'a> {
 /// The diagnosis of a fault: what was expected at its line, what was found there, and what to do. Without a remedy, the
 /// table of faults says what to do.
 #[derive(Clone, Copy)]
-pub struct Diagnosis<'a> {
-    pub wanted: Sentence<'a>,
-    pub read: Sentence<'a>,
-    pub remedy: Option<Sentence<'a>>,
+pub struct Diagnosis {
+    pub wanted: Sentence,
+    pub read: Sentence,
+    pub remedy: Option<Sentence>,
     /// Another line that is related to the fault.
     pub other: Option<u64>,
 }
 
-impl<'a> Diagnosis<'a> {
+impl Diagnosis {
     /// A diagnosis without a remedy.
-    pub fn new(wanted: Sentence<'a>, read: Sentence<'a>) -> Diagnosis<'a> {
+    pub fn new(wanted: Sentence, read: Sentence) -> Diagnosis {
         Diagnosis {
             wanted,
             read,
@@ -49,11 +49,7 @@ impl<'a> Diagnosis<'a> {
     }
 
     /// A diagnosis whose expectation and remedy have no values.
-    pub fn advised(
-        wanted: &'static str,
-        read: Sentence<'a>,
-        remedy: &'static str,
-    ) -> Diagnosis<'a> {
+    pub fn advised(wanted: &'static str, read: Sentence, remedy: &'static str) -> Diagnosis {
         Diagnosis {
             wanted: Sentence::of(wanted),
             read,
@@ -63,7 +59,7 @@ impl<'a> Diagnosis<'a> {
     }
 
     /// The diagnosis with this remedy.
-    pub fn with(self, remedy: Sentence<'a>) -> Diagnosis<'a> {
+    pub fn with(self, remedy: Sentence) -> Diagnosis {
         Diagnosis {
             remedy: Some(remedy),
             ..self
@@ -71,7 +67,7 @@ impl<'a> Diagnosis<'a> {
     }
 
     /// The diagnosis with this remedy, which has no values.
-    pub fn advice(self, remedy: &'static str) -> Diagnosis<'a> {
+    pub fn advice(self, remedy: &'static str) -> Diagnosis {
         self.with(Sentence::of(remedy))
     }
 }

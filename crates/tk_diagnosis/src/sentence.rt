@@ -1,5 +1,5 @@
 //! Sentences about a file, with values from it.
-use crate::escaped::shown_word;
+use crate::escaped::ShownWord;
 use std::fmt;
 use tk_params::Key;
 use tk_words::Keyword;
@@ -20,36 +20,36 @@ const VALUES: usize = 6;
 
 /// A sentence with values, which replace its `{}` in order. At most one of them is a word of the file.
 #[derive(Clone, Copy)]
-pub struct Sentence<'a> {
+pub struct Sentence {
     form: &'static str,
     values: [Value; VALUES],
     count: usize,
-    word: &'a [u8],
+    word: ShownWord,
 }
 
-impl<'a> Sentence<'a> {
+impl Sentence {
     /// A sentence without values. If it has any, they are added afterwards.
-    pub fn of(form: &'static str) -> Sentence<'a> {
+    pub fn of(form: &'static str) -> Sentence {
         Sentence {
             form,
             values: [Value::Nothing; VALUES],
             count: 0,
-            word: b"",
+            word: ShownWord::of(b""),
         }
     }
 
     /// A sentence that consists only of a word of the file.
-    pub fn of_word(bytes: &'a [u8]) -> Sentence<'a> {
+    pub fn of_word(bytes: &[u8]) -> Sentence {
         Sentence::about("{}", bytes)
     }
 
     /// A sentence whose first value is a word of the file.
-    pub fn about(form: &'static str, word: &'a [u8]) -> Sentence<'a> {
+    pub fn about(form: &'static str, word: &[u8]) -> Sentence {
         Sentence::of(form).word(word)
     }
 
     /// A sentence about a value of the file, or `no value` if it is empty.
-    pub fn of_value(form: &'static str, bytes: &'a [u8]) -> Sentence<'a> {
+    pub fn of_value(form: &'static str, bytes: &[u8]) -> Sentence {
         if bytes.is_empty() {
             Sentence::of("no value")
         } else {
@@ -58,7 +58,7 @@ impl<'a> Sentence<'a> {
     }
 
     /// The sentence with its next value.
-    fn with(self, value: Value) -> Sentence<'a> {
+    fn with(self, value: Value) -> Sentence {
         let mut sentence = self;
         if let Some(place) = sentence.values.get_mut(self.count) {
             *place = value;
@@ -68,12 +68,12 @@ impl<'a> Sentence<'a> {
     }
 
     /// The sentence with a number as its next value.
-    pub fn number(self, number: u64) -> Sentence<'a> {
+    pub fn number(self, number: u64) -> Sentence {
         self.with(Value::Number(number))
     }
 
     /// The sentence with numbers as its next values.
-    pub fn numbers<const N: usize>(self, numbers: [u64; N]) -> Sentence<'a> {
+    pub fn numbers<const N: usize>(self, numbers: [u64; N]) -> Sentence {
         let mut sentence = self;
         for number in numbers {
             sentence = sentence.number(number);
@@ -82,29 +82,29 @@ impl<'a> Sentence<'a> {
     }
 
     /// The sentence with an integer, which can be negative, as its next value.
-    pub fn integer(self, number: i64) -> Sentence<'a> {
+    pub fn integer(self, number: i64) -> Sentence {
         self.with(Value::Integer(number))
     }
 
     /// The sentence with a keyword as its next value.
-    pub fn keyword(self, word: Keyword) -> Sentence<'a> {
+    pub fn keyword(self, word: Keyword) -> Sentence {
         self.with(Value::Text(word.word()))
     }
 
     /// The sentence with a key of parameter files as its next value.
-    pub fn key(self, key: Key) -> Sentence<'a> {
+    pub fn key(self, key: Key) -> Sentence {
         self.with(Value::Text(key.word()))
     }
 
     /// The sentence with a fixed text as its next value.
-    pub fn text(self, text: &'static str) -> Sentence<'a> {
+    pub fn text(self, text: &'static str) -> Sentence {
         self.with(Value::Text(text))
     }
 
     /// The sentence with its word as its next value.
-    pub fn word(self, word: &'a [u8]) -> Sentence<'a> {
+    pub fn word(self, word: &[u8]) -> Sentence {
         let mut sentence = self.with(Value::Word);
-        sentence.word = word;
+        sentence.word = ShownWord::of(word);
         sentence
     }
 
@@ -115,15 +115,12 @@ impl<'a> Sentence<'a> {
             Value::Number(number) => write!(f, "{number}"),
             Value::Integer(number) => write!(f, "{number}"),
             Value::Text(text) => f.write_str(text),
-            Value::Word => {
-                let word = shown_word(self.word);
-                write!(f, "{word}")
-            }
+            Value::Word => fmt::Display::fmt(&self.word, f),
         }
     }
 }
 
-impl fmt::Display for Sentence<'_> {
+impl fmt::Display for Sentence {
     fn fmt<W: fmt::Write>(&self, f: &mut fmt::Formatter<W>) -> fmt::Result {
         let mut rest = self.form;
         for value in self.values {

@@ -7,7 +7,7 @@ use tk_params::key_of;
 use tk_words::{Keyword, Role, spelled};
 
 /// A sentence on how a line is read.
-pub fn interpretation_of<'a>(spot: &LineContext<'a>) -> Sentence<'a> {
+pub fn interpretation_of(spot: &LineContext<'_>) -> Sentence {
     if spot.line.trim_ascii().is_empty() {
         return Sentence::of("a blank line");
     }
@@ -38,7 +38,7 @@ fn is_after_end(spot: &LineContext<'_>) -> bool {
 }
 
 /// How a line of a problem or a tour is read.
-fn in_text<'a>(spot: &LineContext<'a>) -> Sentence<'a> {
+fn in_text(spot: &LineContext<'_>) -> Sentence {
     let Some(word) = keyword_at(spot.line) else {
         return among_numbers(spot);
     };
@@ -54,7 +54,7 @@ fn in_text<'a>(spot: &LineContext<'a>) -> Sentence<'a> {
 }
 
 /// How a line without a keyword is read.
-fn among_numbers<'a>(spot: &LineContext<'_>) -> Sentence<'a> {
+fn among_numbers(spot: &LineContext<'_>) -> Sentence {
     let Some(place) = place_of(spot.text, spot.number) else {
         return Sentence::of("a line outside any section");
     };
@@ -62,7 +62,7 @@ fn among_numbers<'a>(spot: &LineContext<'_>) -> Sentence<'a> {
 }
 
 /// The numbers of a section that are on a line.
-fn numbers_of<'a>(line: &[u8], place: SectionPosition) -> Sentence<'a> {
+fn numbers_of(line: &[u8], place: SectionPosition) -> Sentence {
     let section = place.section;
     let width = entry_width(section);
     let count = count_tokens(line);
@@ -80,7 +80,7 @@ fn numbers_of<'a>(line: &[u8], place: SectionPosition) -> Sentence<'a> {
 }
 
 /// How a line of a solution is read.
-fn in_solution<'a>(line: &[u8]) -> Sentence<'a> {
+fn in_solution(line: &[u8]) -> Sentence {
     let word = split_word(line).0;
     Sentence::of(if spelled(word, b"ROUTE") {
         "a route"
@@ -92,7 +92,7 @@ fn in_solution<'a>(line: &[u8]) -> Sentence<'a> {
 }
 
 /// How a line of a parameter file is read.
-fn in_parameters(line: &[u8]) -> Sentence<'_> {
+fn in_parameters(line: &[u8]) -> Sentence {
     let word = split_word(line).0;
     if let Some(key) = key_of(word) {
         return Sentence::of("the key {} with the value {}")

@@ -5,7 +5,7 @@ use crate::sentence::Sentence;
 use tk_kinds::{Foreign, Wrapping};
 
 /// The diagnosis of a file that is not a text that can be read.
-pub fn wrapped<'a>(wrapping: Wrapping) -> Diagnosis<'a> {
+pub fn wrapped(wrapping: Wrapping) -> Diagnosis {
     let (read, remedy) = match wrapping {
         Wrapping::Gzip => (
             "a file compressed by gzip",
@@ -29,7 +29,7 @@ pub fn wrapped<'a>(wrapping: Wrapping) -> Diagnosis<'a> {
 }
 
 /// The diagnosis of a file that another program wrote.
-fn foreign_here<'a>(foreign: Foreign) -> Diagnosis<'a> {
+fn foreign_here(foreign: Foreign) -> Diagnosis {
     let (read, remedy) = match foreign {
         Foreign::Csv => (
             "a CSV file: values separated by commas or semicolons",

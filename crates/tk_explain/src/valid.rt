@@ -15,7 +15,7 @@ pub enum Valid {
 
 impl Valid {
     /// A summary of the contents, as a part of a sentence.
-    pub fn sentence(&self) -> Sentence<'_> {
+    pub fn sentence(&self) -> Sentence {
         match self {
             Valid::Problem(problem) => of_problem(problem),
             Valid::Tour(tour) => {
@@ -32,7 +32,7 @@ impl Valid {
 }
 
 /// A summary of a problem.
-fn of_problem(problem: &Problem) -> Sentence<'_> {
+fn of_problem(problem: &Problem) -> Sentence {
     let text = match problem.routing {
         None => "a TSP of {} cities named {}, with {} distances",
         Some(_) => "a CVRP of {} nodes named {}, with {} distances and capacity {}",
@@ -48,7 +48,7 @@ fn of_problem(problem: &Problem) -> Sentence<'_> {
 }
 
 /// A summary of a solution.
-fn of_solution(solution: &SolText) -> Sentence<'_> {
+fn of_solution(solution: &SolText) -> Sentence {
     Sentence::of("a solution file of {} routes with {} customers, cost {}")
         .number(solution.routes.len() as u64)
         .number(customers_of(solution) as u64)

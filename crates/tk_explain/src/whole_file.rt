@@ -145,7 +145,7 @@ fn add_here(
     page: &mut Page,
     file: &File<'_>,
     fault: &FileFault,
-    here: &Diagnosis<'_>,
+    here: &Diagnosis,
     has_causes: bool,
 ) -> Result<(), AllocError> {
     add_lines(page, file, fault.line(), here.other)?;
@@ -159,17 +159,13 @@ fn add_here(
 }
 
 /// Adds what was expected at the line, and what was found there.
-fn add_read(page: &mut Page, here: &Diagnosis<'_>) -> Result<(), AllocError> {
+fn add_read(page: &mut Page, here: &Diagnosis) -> Result<(), AllocError> {
     page.labelled_value(WANTED, &here.wanted)?;
     page.labelled_value(READ, &here.read)
 }
 
 /// Adds what to do: the remedy of the diagnosis or, without one, that of the table of faults.
-fn add_remedy(
-    page: &mut Page,
-    here: &Diagnosis<'_>,
-    general: &FaultText,
-) -> Result<(), AllocError> {
+fn add_remedy(page: &mut Page, here: &Diagnosis, general: &FaultText) -> Result<(), AllocError> {
     match &here.remedy {
         Some(remedy) => page.labelled_value(REMEDY, remedy),
         None => page.labelled(REMEDY, general.remedy),

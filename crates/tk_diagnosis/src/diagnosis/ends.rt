@@ -20,7 +20,7 @@ struct Size {
 impl Size {
     /// A sentence about the entry that follows `entries` entries of a section. Its values are the entry, the section,
     /// DIMENSION and its line.
-    fn entry_after<'a>(&self, form: &'static str, section: Keyword, entries: u64) -> Sentence<'a> {
+    fn entry_after(&self, form: &'static str, section: Keyword, entries: u64) -> Sentence {
         Sentence::of(form)
             .number(entries.saturating_add(1))
             .keyword(section)
@@ -92,7 +92,7 @@ fn end_on(line: &[u8]) -> (Option<&[u8]>, u64) {
 }
 
 /// A sentence whose first value is the end of a section: a keyword, or the end of the file.
-fn of_end<'a>(text: &'static str, end: Option<&'a [u8]>) -> Sentence<'a> {
+fn of_end(text: &'static str, end: Option<&[u8]>) -> Sentence {
     match end {
         Some(word) => Sentence::about(text, word),
         None => Sentence::of(text).text("the end of the file"),
@@ -100,7 +100,7 @@ fn of_end<'a>(text: &'static str, end: Option<&'a [u8]>) -> Sentence<'a> {
 }
 
 /// The diagnosis of a section that ends before its last number.
-pub fn truncated<'a>(spot: &LineContext<'a>) -> Diagnosis<'a> {
+pub fn truncated(spot: &LineContext<'_>) -> Diagnosis {
     let (end, count) = end_on(spot.line);
     let Some(place) = place_of(spot.text, spot.number) else {
         return Diagnosis::new(Sentence::of("numbers"), of_end("{}", end));
@@ -115,12 +115,7 @@ pub fn truncated<'a>(spot: &LineContext<'a>) -> Diagnosis<'a> {
 }
 
 /// The diagnosis of a section with too few entries, which must have one for each node.
-fn few_entries<'a>(
-    end: Option<&'a [u8]>,
-    section: Keyword,
-    have: u64,
-    size: Size,
-) -> Diagnosis<'a> {
+fn few_entries(end: Option<&[u8]>, section: Keyword, have: u64, size: Size) -> Diagnosis {
     let width = entry_width(section);
     let entries = have / width;
     let wanted = size.entry_after(
@@ -143,12 +138,7 @@ fn few_entries<'a>(
 }
 
 /// The diagnosis of a section that ends in the middle of an entry, after `entries` complete ones.
-fn in_entry<'a>(
-    wanted: Sentence<'a>,
-    end: Option<&'a [u8]>,
-    entries: u64,
-    width: u64,
-) -> Diagnosis<'a> {
+fn in_entry(wanted: Sentence, end: Option<&[u8]>, entries: u64, width: u64) -> Diagnosis {
     let next = entries.saturating_add(1);
     let read = of_end("{} in the middle of entry {}", end).number(next);
     let remedy = Sentence::of("Complete the entry: each has {} numbers.").number(width);
@@ -156,7 +146,7 @@ fn in_entry<'a>(
 }
 
 /// The diagnosis of a section with too few weights.
-fn few_weights<'a>(end: Option<&'a [u8]>, have: u64, size: Size) -> Diagnosis<'a> {
+fn few_weights(end: Option<&[u8]>, have: u64, size: Size) -> Diagnosis {
     let Size {
         nodes,
         line,
@@ -176,11 +166,7 @@ fn few_weights<'a>(end: Option<&'a [u8]>, have: u64, size: Size) -> Diagnosis<'a
 }
 
 /// The diagnosis of a list that ends too early, at a keyword or at the end of the file.
-fn short_list<'a>(
-    spot: &LineContext<'a>,
-    end: Option<&'a [u8]>,
-    section: Keyword,
-) -> Diagnosis<'a> {
+fn short_list(spot: &LineContext<'_>, end: Option<&[u8]>, section: Keyword) -> Diagnosis {
     let text = "Move line {} before {}, or write a line -1 before it if the list is complete.";
     Diagnosis {
         wanted: Sentence::of("another entry of {}, or the -1 that ends it").keyword(section),
@@ -191,7 +177,7 @@ fn short_list<'a>(
 }
 
 /// The diagnosis of data where none is allowed.
-pub fn trailing<'a>(spot: &LineContext<'a>) -> Diagnosis<'a> {
+pub fn trailing(spot: &LineContext<'_>) -> Diagnosis {
     let Some(place) = place_of(spot.text, spot.number) else {
         return no_word(spot);
     };
@@ -202,7 +188,7 @@ pub fn trailing<'a>(spot: &LineContext<'a>) -> Diagnosis<'a> {
 }
 
 /// The diagnosis of a line that belongs to no section and does not begin with a letter, or has data after its keyword.
-fn no_word<'a>(spot: &LineContext<'a>) -> Diagnosis<'a> {
+fn no_word(spot: &LineContext<'_>) -> Diagnosis {
     if keyword_at(spot.line).is_some() {
         return Diagnosis::new(
             Sentence::of("nothing more on the line"),
@@ -225,13 +211,13 @@ fn no_word<'a>(spot: &LineContext<'a>) -> Diagnosis<'a> {
 }
 
 /// The diagnosis of a line without a keyword at its front, given what was found and the remedy.
-fn no_keyword<'a>(read: Sentence<'a>, remedy: &'static str, line: u64) -> Diagnosis<'a> {
+fn no_keyword(read: Sentence, remedy: &'static str, line: u64) -> Diagnosis {
     let wanted = Sentence::of("a keyword, which begins with a letter");
     Diagnosis::new(wanted, read).with(Sentence::of(remedy).number(line))
 }
 
 /// The diagnosis of data after the last number of a section whose size is known.
-fn too_many<'a>(spot: &LineContext<'a>, place: SectionPosition, size: Size) -> Diagnosis<'a> {
+fn too_many(spot: &LineContext<'_>, place: SectionPosition, size: Size) -> Diagnosis {
     let section = place.section;
     let left = size.numbers.saturating_sub(place.numbers);
     let bytes = token_after(spot.line, left).unwrap_or(first_token(spot.line));
@@ -248,14 +234,14 @@ fn too_many<'a>(spot: &LineContext<'a>, place: SectionPosition, size: Size) -> D
 }
 
 /// The sentence on what can follow a section that has all of its numbers.
-fn after_section<'a>(section: Keyword, numbers: u64) -> Sentence<'a> {
+fn after_section(section: Keyword, numbers: u64) -> Sentence {
     Sentence::of("a header, another section or EOF: {} has all of its {} numbers")
         .keyword(section)
         .number(numbers)
 }
 
 /// The diagnosis of data after the last number of a section, on the same line.
-fn behind_last(section: Keyword, numbers: u64, bytes: &[u8]) -> Diagnosis<'_> {
+fn behind_last(section: Keyword, numbers: u64, bytes: &[u8]) -> Diagnosis {
     let read = Sentence::about("{} after the last number of {}", bytes).keyword(section);
     Diagnosis::new(after_section(section, numbers), read).advice(
         "Remove it. If it is a comment, write it on its own COMMENT : line before the section.",
@@ -271,7 +257,7 @@ fn begins_entry(line: &[u8]) -> bool {
 }
 
 /// The diagnosis of a weight after the last one.
-fn one_weight_more(bytes: &[u8], size: Size) -> Diagnosis<'_> {
+fn one_weight_more(bytes: &[u8], size: Size) -> Diagnosis {
     let text =
         "Correct DIMENSION (line {}) or EDGE_WEIGHT_FORMAT, which determine the number of weights.";
     Diagnosis {
@@ -283,7 +269,7 @@ fn one_weight_more(bytes: &[u8], size: Size) -> Diagnosis<'_> {
 }
 
 /// The diagnosis of further lines after the last entry of a section.
-fn more_entries<'a>(spot: &LineContext<'a>, section: Keyword, size: Size) -> Diagnosis<'a> {
+fn more_entries(spot: &LineContext<'_>, section: Keyword, size: Size) -> Diagnosis {
     let entries = numbers_in(spot.text, section) / entry_width(section);
     let text = "Write DIMENSION : {} on line {}, or remove the extra entries, from line {} on.";
     Diagnosis {
@@ -299,7 +285,7 @@ fn more_entries<'a>(spot: &LineContext<'a>, section: Keyword, size: Size) -> Dia
 }
 
 /// The diagnosis of data after the `-1` that ends a list.
-fn after_list<'a>(spot: &LineContext<'a>, section: Keyword) -> Diagnosis<'a> {
+fn after_list(spot: &LineContext<'_>, section: Keyword) -> Diagnosis {
     let count = count_tokens(spot.line);
     let bytes = token_after(spot.line, count.saturating_sub(1)).unwrap_or(spot.line);
     let text = "a header or EOF on a new line, since -1 ends {}";

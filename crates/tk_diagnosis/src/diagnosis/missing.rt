@@ -6,7 +6,7 @@ use tk_kinds::{Kind, header, keyword_at};
 use tk_words::{Keyword, Role};
 
 /// The diagnosis of a header or a section that is missing before a section, or in the whole file.
-pub fn missing<'a>(spot: &LineContext<'a>, word: Keyword) -> Diagnosis<'a> {
+pub fn missing(spot: &LineContext<'_>, word: Keyword) -> Diagnosis {
     match keyword_at(spot.line) {
         Some(section) if section.role() == Role::BeginsSection => before(spot, word, section),
         _ => at_end(spot, word),
@@ -14,7 +14,7 @@ pub fn missing<'a>(spot: &LineContext<'a>, word: Keyword) -> Diagnosis<'a> {
 }
 
 /// The diagnosis of a header that is missing before a section.
-fn before<'a>(spot: &LineContext<'a>, word: Keyword, section: Keyword) -> Diagnosis<'a> {
+fn before(spot: &LineContext<'_>, word: Keyword, section: Keyword) -> Diagnosis {
     let wanted = Sentence::of("{}, which must come before {}")
         .keyword(word)
         .keyword(section);
@@ -37,7 +37,7 @@ fn before<'a>(spot: &LineContext<'a>, word: Keyword, section: Keyword) -> Diagno
 }
 
 /// A sentence on what to add before a section.
-fn added_before<'a>(spot: &LineContext<'_>, word: Keyword, section: Keyword) -> Sentence<'a> {
+fn added_before(spot: &LineContext<'_>, word: Keyword, section: Keyword) -> Sentence {
     let width = entry_width(section);
     let nodes = numbers_in(spot.text, section) / width;
     if word == Keyword::Dimension && width > 1 && nodes > 1 {
@@ -51,7 +51,7 @@ fn added_before<'a>(spot: &LineContext<'_>, word: Keyword, section: Keyword) -> 
 }
 
 /// The diagnosis of a header or a section that is missing in the whole file.
-fn at_end<'a>(spot: &LineContext<'a>, word: Keyword) -> Diagnosis<'a> {
+fn at_end(spot: &LineContext<'_>, word: Keyword) -> Diagnosis {
     let read = if spot.text.trim_ascii().is_empty() {
         Sentence::of("an empty file")
     } else {

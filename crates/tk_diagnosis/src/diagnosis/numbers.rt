@@ -29,7 +29,7 @@ struct Entry {
 
 impl Entry {
     /// The sentence on the number that is expected at this index.
-    fn wanted<'a>(&self) -> Sentence<'a> {
+    fn wanted(&self) -> Sentence {
         let width = entry_width(self.section);
         let entry = (self.index / width).saturating_add(1);
         let field = self.index % width;
@@ -68,7 +68,7 @@ fn text_of_field(section: Keyword, field: u64) -> &'static str {
 ///
 /// # Errors
 /// `AllocError` if memory runs out.
-pub fn number<'a>(spot: &LineContext<'a>, kind: TextKind) -> Result<Diagnosis<'a>, AllocError> {
+pub fn number(spot: &LineContext<'_>, kind: TextKind) -> Result<Diagnosis, AllocError> {
     match keyword_at(spot.line) {
         Some(word) if word.role() == Role::BeginsHeader => Ok(in_header(spot, word, kind)),
         Some(word) if kind == TextKind::OutOfLimit => Ok(too_many_nodes(spot, word)),
@@ -80,7 +80,7 @@ pub fn number<'a>(spot: &LineContext<'a>, kind: TextKind) -> Result<Diagnosis<'a
 }
 
 /// The diagnosis of a header whose value is not an integer, or is outside its limits.
-fn in_header<'a>(spot: &LineContext<'a>, word: Keyword, kind: TextKind) -> Diagnosis<'a> {
+fn in_header(spot: &LineContext<'_>, word: Keyword, kind: TextKind) -> Diagnosis {
     let limits = match word {
         Keyword::Capacity => "1 to 2,000,000,000",
         _ if spot.kind == Kind::Tour => "1 to 1,000,000",
@@ -122,7 +122,7 @@ fn remedy_of_header(kind: Kind, word: Keyword, value: &[u8]) -> &'static str {
 }
 
 /// The diagnosis of a problem with too many nodes for this section.
-fn too_many_nodes<'a>(spot: &LineContext<'a>, word: Keyword) -> Diagnosis<'a> {
+fn too_many_nodes(spot: &LineContext<'_>, word: Keyword) -> Diagnosis {
     let nodes = header_number(spot.text, Keyword::Dimension).unwrap_or(0);
     let line = header_line(spot.text, Keyword::Dimension);
     let text = "Use a problem of at most 5,000 nodes, or a TSP with coordinates.";
@@ -138,11 +138,11 @@ fn too_many_nodes<'a>(spot: &LineContext<'a>, word: Keyword) -> Diagnosis<'a> {
 ///
 /// # Errors
 /// `AllocError` if memory runs out.
-fn in_section<'a>(
-    spot: &LineContext<'a>,
+fn in_section(
+    spot: &LineContext<'_>,
     place: SectionPosition,
     kind: TextKind,
-) -> Result<Diagnosis<'a>, AllocError> {
+) -> Result<Diagnosis, AllocError> {
     let size = header_number(spot.text, Keyword::Dimension).unwrap_or(0);
     match faulty_on(spot.line, place, size, kind) {
         Some(Faulty { index, bytes }) => {
@@ -162,12 +162,7 @@ fn in_section<'a>(
 }
 
 /// The diagnosis of a number with a fault of this kind.
-fn of_entry<'a>(
-    spot: &LineContext<'a>,
-    entry: Entry,
-    bytes: &'a [u8],
-    kind: TextKind,
-) -> Diagnosis<'a> {
+fn of_entry(spot: &LineContext<'_>, entry: Entry, bytes: &[u8], kind: TextKind) -> Diagnosis {
     if !is_marked(bytes) {
         if let Some((line, count)) = uneven_line(spot.text, entry.section, spot.number) {
             return uneven(entry, bytes, line, count);
@@ -237,7 +232,7 @@ fn fault_within(bytes: &[u8], low: u64, high: u64, outside: TextKind) -> Option<
 
 /// The diagnosis of a number that is read as another one, since this line or an earlier one has too few numbers or too
 /// many.
-fn uneven<'a>(entry: Entry, bytes: &'a [u8], line: u64, count: u64) -> Diagnosis<'a> {
+fn uneven(entry: Entry, bytes: &[u8], line: u64, count: u64) -> Diagnosis {
     let text = "Check line {} first: it has {} numbers, but an entry of {} has {}.";
     let remedy = Sentence::of(text)
         .numbers([line, count])
@@ -252,7 +247,7 @@ fn uneven<'a>(entry: Entry, bytes: &'a [u8], line: u64, count: u64) -> Diagnosis
 }
 
 /// The diagnosis of a number that is not a node of the problem.
-fn other_node<'a>(spot: &LineContext<'a>, entry: Entry, bytes: &'a [u8]) -> Diagnosis<'a> {
+fn other_node(spot: &LineContext<'_>, entry: Entry, bytes: &[u8]) -> Diagnosis {
     match integer(bytes) {
         Some(number) if number < 1 => below_one(entry, bytes),
         _ => above_size(entry, bytes, header_line(spot.text, Keyword::Dimension)),
@@ -260,7 +255,7 @@ fn other_node<'a>(spot: &LineContext<'a>, entry: Entry, bytes: &'a [u8]) -> Diag
 }
 
 /// The diagnosis of a node number below 1.
-fn below_one<'a>(entry: Entry, bytes: &'a [u8]) -> Diagnosis<'a> {
+fn below_one(entry: Entry, bytes: &[u8]) -> Diagnosis {
     Diagnosis::new(
         entry.wanted(),
         Sentence::about("{}, but node numbers start at 1", bytes),
@@ -271,7 +266,7 @@ fn below_one<'a>(entry: Entry, bytes: &'a [u8]) -> Diagnosis<'a> {
 }
 
 /// The diagnosis of a node number above DIMENSION, which is on this line.
-fn above_size<'a>(entry: Entry, bytes: &'a [u8], line: u64) -> Diagnosis<'a> {
+fn above_size(entry: Entry, bytes: &[u8], line: u64) -> Diagnosis {
     let text = "{}, but DIMENSION is {} (line {})";
     Diagnosis {
         wanted: entry.wanted(),
@@ -282,7 +277,7 @@ fn above_size<'a>(entry: Entry, bytes: &'a [u8], line: u64) -> Diagnosis<'a> {
 }
 
 /// The diagnosis of a number outside its limits.
-fn outside(entry: Entry, bytes: &[u8]) -> Diagnosis<'_> {
+fn outside(entry: Entry, bytes: &[u8]) -> Diagnosis {
     let here = Diagnosis::new(entry.wanted(), Sentence::of_word(bytes));
     match entry.section {
         Keyword::NodeCoordSection | Keyword::DisplayDataSection => here.advice(
@@ -296,7 +291,7 @@ fn outside(entry: Entry, bytes: &[u8]) -> Diagnosis<'_> {
 }
 
 /// The diagnosis of a token that is not a number.
-fn no_number(entry: Entry, bytes: &[u8]) -> Diagnosis<'_> {
+fn no_number(entry: Entry, bytes: &[u8]) -> Diagnosis {
     let misread = misread_of(bytes);
     let field = entry.index % entry_width(entry.section);
     let has_decimals = matches!(
@@ -318,11 +313,11 @@ fn no_number(entry: Entry, bytes: &[u8]) -> Diagnosis<'_> {
 ///
 /// # Errors
 /// `AllocError` if memory runs out.
-fn named_before<'a>(
-    spot: &LineContext<'a>,
+fn named_before(
+    spot: &LineContext<'_>,
     section: Keyword,
     size: u64,
-) -> Result<Diagnosis<'a>, AllocError> {
+) -> Result<Diagnosis, AllocError> {
     match first_repeat(spot.alloc, spot.text, section, size)? {
         Some(repeat) => Ok(repeated_node(section, repeat, spot.number)),
         None => Ok(Diagnosis::new(
@@ -333,7 +328,7 @@ fn named_before<'a>(
 }
 
 /// The diagnosis of a node that is repeated on this line.
-fn repeated_node<'a>(section: Keyword, repeat: Repeat, line: u64) -> Diagnosis<'a> {
+fn repeated_node(section: Keyword, repeat: Repeat, line: u64) -> Diagnosis {
     let Repeat { node, first } = repeat;
     let read = Sentence::of("node {} again; it is already on line {}").numbers([node, first]);
     let text = "Correct the node number on line {} or line {}, or remove one of the lines.";

@@ -33,7 +33,7 @@ CONSTRUCTION, FINAL_SWEEP, OR_SEGMENT, # or EOF";
 ///
 /// # Errors
 /// `AllocError` if memory runs out, as for all functions here.
-pub fn parameter<'a>(spot: &LineContext<'a>, kind: ParamKind) -> Result<Diagnosis<'a>, AllocError> {
+pub fn parameter(spot: &LineContext<'_>, kind: ParamKind) -> Result<Diagnosis, AllocError> {
     match kind {
         ParamKind::UnknownKey => unknown_key(spot),
         ParamKind::RepeatedKey => Ok(repeated_key(spot)),
@@ -48,7 +48,7 @@ pub fn parameter<'a>(spot: &LineContext<'a>, kind: ParamKind) -> Result<Diagnosi
 }
 
 /// The diagnosis of a parameter file without PROBLEM_FILE.
-fn no_problem<'a>() -> Diagnosis<'a> {
+fn no_problem() -> Diagnosis {
     Diagnosis::new(
         Sentence::of("PROBLEM_FILE, which is required"),
         Sentence::of("the end of the file, without any PROBLEM_FILE"),
@@ -56,7 +56,7 @@ fn no_problem<'a>() -> Diagnosis<'a> {
 }
 
 /// The diagnosis of a line, a key or a file that is too long.
-fn too_long<'a>(spot: &LineContext<'a>) -> Diagnosis<'a> {
+fn too_long(spot: &LineContext<'_>) -> Diagnosis {
     Diagnosis::new(
         Sentence::of("a line of at most 4,096 bytes, with a key of at most 64"),
         Sentence::of("a line of {} bytes").number(spot.line.len() as u64),
@@ -64,7 +64,7 @@ fn too_long<'a>(spot: &LineContext<'a>) -> Diagnosis<'a> {
 }
 
 /// The diagnosis of a line that does not begin with a known key.
-fn unknown_key<'a>(spot: &LineContext<'a>) -> Result<Diagnosis<'a>, AllocError> {
+fn unknown_key(spot: &LineContext<'_>) -> Result<Diagnosis, AllocError> {
     let key = split_word(spot.line).0;
     if key.is_empty() {
         let bytes = first_token(spot.line);
@@ -78,12 +78,12 @@ fn unknown_key<'a>(spot: &LineContext<'a>) -> Result<Diagnosis<'a>, AllocError> 
 }
 
 /// The diagnosis of a word that is not a key; `read` is the sentence about it.
-fn no_key<'a>(bytes: &'a [u8], read: &'static str) -> Diagnosis<'a> {
+fn no_key(bytes: &[u8], read: &'static str) -> Diagnosis {
     Diagnosis::new(Sentence::of(KEYS), Sentence::about(read, bytes))
 }
 
 /// The diagnosis of a key of LKH that tourkit does not have.
-fn other_key(key: &[u8]) -> Diagnosis<'_> {
+fn other_key(key: &[u8]) -> Diagnosis {
     Diagnosis::advised(
         KEYS,
         Sentence::about("{}, an LKH key that tourkit does not have", key),
@@ -92,7 +92,7 @@ fn other_key(key: &[u8]) -> Diagnosis<'_> {
 }
 
 /// The diagnosis of a repeated key.
-fn repeated_key<'a>(spot: &LineContext<'a>) -> Diagnosis<'a> {
+fn repeated_key(spot: &LineContext<'_>) -> Diagnosis {
     let word = split_word(spot.line).0;
     let first = first_with(spot.text, word);
     Diagnosis {
@@ -133,7 +133,7 @@ fn values_of(key: Key) -> &'static str {
 }
 
 /// The diagnosis of a key whose value is not allowed.
-fn bad_value<'a>(spot: &LineContext<'a>) -> Diagnosis<'a> {
+fn bad_value(spot: &LineContext<'_>) -> Diagnosis {
     match key_of(split_word(spot.line).0) {
         Some(key) => value_of_key(key, value_behind(spot.line, b'=')),
         None => Diagnosis::new(
@@ -144,7 +144,7 @@ fn bad_value<'a>(spot: &LineContext<'a>) -> Diagnosis<'a> {
 }
 
 /// The diagnosis of a value that this key does not allow.
-fn value_of_key(key: Key, bytes: &[u8]) -> Diagnosis<'_> {
+fn value_of_key(key: Key, bytes: &[u8]) -> Diagnosis {
     let values = values_of(key);
     Diagnosis {
         wanted: Sentence::of("{}, as the value of {}").text(values).key(key),
@@ -161,7 +161,7 @@ fn value_of_key(key: Key, bytes: &[u8]) -> Diagnosis<'_> {
 const COLON: &str = "Write an equals sign instead of the colon: {} = {}";
 
 /// The remedy for a value, given a description of the values that are allowed.
-fn other_value<'a>(bytes: &[u8], values: &'static str) -> Sentence<'a> {
+fn other_value(bytes: &[u8], values: &'static str) -> Sentence {
     if bytes.is_empty() {
         Sentence::of("Write the value after the key, or put # before the line.")
     } else if bytes.contains(&b'#') {

@@ -6,7 +6,7 @@ use tk_kinds::{NumberedLine, first_token, header, tokens_of};
 use tk_words::{Keyword, integer};
 
 /// The diagnosis of a depot section that does not name exactly one node, or of a depot with a demand.
-pub fn bad_depot<'a>(spot: &LineContext<'a>) -> Diagnosis<'a> {
+pub fn bad_depot(spot: &LineContext<'_>) -> Diagnosis {
     match place_of(spot.text, spot.number) {
         Some(place) if place.section == Keyword::DepotSection => on_depot(spot, place.numbers),
         _ => depot_with_demand(spot),
@@ -14,7 +14,7 @@ pub fn bad_depot<'a>(spot: &LineContext<'a>) -> Diagnosis<'a> {
 }
 
 /// Like `bad_depot`, for a line of the depot section; `begun` numbers of the section come before it.
-fn on_depot<'a>(spot: &LineContext<'a>, begun: u64) -> Diagnosis<'a> {
+fn on_depot(spot: &LineContext<'_>, begun: u64) -> Diagnosis {
     let size = header_number(spot.text, Keyword::Dimension).unwrap_or(0);
     match bad_on(spot.line, begun, size) {
         Some((0, bytes)) => no_depot(bytes, size),
@@ -50,7 +50,7 @@ fn is_bad(index: u64, number: i64, size: u64) -> bool {
 }
 
 /// The diagnosis of a number after the depot.
-fn second_depot(bytes: &[u8]) -> Diagnosis<'_> {
+fn second_depot(bytes: &[u8]) -> Diagnosis {
     Diagnosis::advised(
         "-1, since DEPOT_SECTION already has a node",
         Sentence::about("{}, a second node", bytes),
@@ -59,7 +59,7 @@ fn second_depot(bytes: &[u8]) -> Diagnosis<'_> {
 }
 
 /// The diagnosis of a depot that is not a node.
-fn no_depot(bytes: &[u8], size: u64) -> Diagnosis<'_> {
+fn no_depot(bytes: &[u8], size: u64) -> Diagnosis {
     let wanted = Sentence::of("the number of the depot, from 1 to {}").number(size);
     Diagnosis::new(wanted, Sentence::of_word(bytes)).advice(
         "Write the node number of the depot, and then -1 on the next line.",
@@ -67,7 +67,7 @@ fn no_depot(bytes: &[u8], size: u64) -> Diagnosis<'_> {
 }
 
 /// The diagnosis of a depot with a demand.
-fn depot_with_demand<'a>(spot: &LineContext<'a>) -> Diagnosis<'a> {
+fn depot_with_demand(spot: &LineContext<'_>) -> Diagnosis {
     let Some(depot) = number_at(spot.text, Keyword::DepotSection, 0) else {
         return Diagnosis::new(Sentence::of("a depot"), Sentence::of_word(spot.line));
     };
@@ -95,7 +95,7 @@ fn demand_of<'a>(spot: &LineContext<'a>, node: i64) -> Option<NumberedLine<'a>> 
 }
 
 /// The diagnosis of a demand that is larger than the capacity.
-pub fn over_capacity<'a>(spot: &LineContext<'a>, node: u32) -> Diagnosis<'a> {
+pub fn over_capacity(spot: &LineContext<'_>, node: u32) -> Diagnosis {
     let (line, capacity) = match header(spot.text, Keyword::Capacity) {
         Some(found) => (found.line, first_token(found.bytes)),
         None => (1, b"".as_slice()),
@@ -122,7 +122,7 @@ pub fn over_capacity<'a>(spot: &LineContext<'a>, node: u32) -> Diagnosis<'a> {
 }
 
 /// The diagnosis of a full matrix in which this entry differs from its mirror entry.
-pub fn not_symmetric<'a>(spot: &LineContext<'a>, row: u32, column: u32) -> Diagnosis<'a> {
+pub fn not_symmetric(spot: &LineContext<'_>, row: u32, column: u32) -> Diagnosis {
     let size = header_number(spot.text, Keyword::Dimension).unwrap_or(0);
     let (Some(first), Some(second)) = (
         entry_at(spot, size, row, column),
@@ -145,7 +145,7 @@ pub fn not_symmetric<'a>(spot: &LineContext<'a>, row: u32, column: u32) -> Diagn
 
 /// The sentence on the weight that is expected in row `column` and column `row`, given that in row `row` and column
 /// `column`.
-fn mirrored<'a>(weight: NumberedLine<'a>, row: u64, column: u64) -> Sentence<'a> {
+fn mirrored(weight: NumberedLine<'_>, row: u64, column: u64) -> Sentence {
     let text = "{} in row {}, column {}, as in row {}, column {} (line {})";
     Sentence::about(text, weight.bytes).numbers([column, row, row, column, weight.line])
 }

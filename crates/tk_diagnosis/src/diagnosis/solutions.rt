@@ -14,7 +14,7 @@ const ROUTE: &str = "a line Route #K: CUSTOMERS, as in Route #1: 3 1 2";
 const COST: &str = "a line Cost N, with an integer, as in Cost 7567";
 
 /// The diagnosis of a fault of a solution file.
-pub fn solution<'a>(spot: &LineContext<'a>, kind: TextKind) -> Diagnosis<'a> {
+pub fn solution(spot: &LineContext<'_>, kind: TextKind) -> Diagnosis {
     if let TextKind::Missing(_) = kind {
         return no_cost();
     }
@@ -29,7 +29,7 @@ pub fn solution<'a>(spot: &LineContext<'a>, kind: TextKind) -> Diagnosis<'a> {
 }
 
 /// The diagnosis of a solution file without a cost.
-fn no_cost<'a>() -> Diagnosis<'a> {
+fn no_cost() -> Diagnosis {
     Diagnosis::advised(
         COST,
         Sentence::of("the end of the file, without any Cost"),
@@ -38,7 +38,7 @@ fn no_cost<'a>() -> Diagnosis<'a> {
 }
 
 /// The diagnosis of a cost that is malformed or outside its limits.
-fn bad_cost(value: &[u8]) -> Diagnosis<'_> {
+fn bad_cost(value: &[u8]) -> Diagnosis {
     let read = if value.is_empty() {
         Sentence::of("Cost without a number")
     } else {
@@ -52,7 +52,7 @@ fn bad_cost(value: &[u8]) -> Diagnosis<'_> {
 }
 
 /// The diagnosis of a line before the cost that is neither a route nor the cost.
-fn other_line<'a>(spot: &LineContext<'a>) -> Diagnosis<'a> {
+fn other_line(spot: &LineContext<'_>) -> Diagnosis {
     let bytes = first_token(spot.line);
     let remedy = if integer(bytes).is_some() {
         "A route is one line: join this line to the one before, or write Route #K: before it."
@@ -67,7 +67,7 @@ fn other_line<'a>(spot: &LineContext<'a>) -> Diagnosis<'a> {
 }
 
 /// The diagnosis of data after the cost: on its line, or a route or another cost on a later line.
-fn after_cost<'a>(spot: &LineContext<'a>, word: &'a [u8]) -> Diagnosis<'a> {
+fn after_cost(spot: &LineContext<'_>, word: &[u8]) -> Diagnosis {
     let line = first_cost(spot.text).unwrap_or(1);
     if line == spot.number {
         return behind_cost(spot.line);
@@ -84,7 +84,7 @@ fn after_cost<'a>(spot: &LineContext<'a>, word: &'a [u8]) -> Diagnosis<'a> {
 }
 
 /// The diagnosis of data after the cost, on its line.
-fn behind_cost(line: &[u8]) -> Diagnosis<'_> {
+fn behind_cost(line: &[u8]) -> Diagnosis {
     let rest = token_after(value_behind(line, b':'), 1).unwrap_or(b"".as_slice());
     Diagnosis::advised(
         "nothing after the cost",
@@ -104,7 +104,7 @@ fn first_cost(text: &[u8]) -> Option<u64> {
 }
 
 /// The diagnosis of a malformed route, of a bad customer, or of too many routes or customers.
-fn in_route<'a>(spot: &LineContext<'a>, kind: TextKind) -> Diagnosis<'a> {
+fn in_route(spot: &LineContext<'_>, kind: TextKind) -> Diagnosis {
     let (_, rest) = spot.line.split_at(length_before(spot.line, b':'));
     if rest.is_empty() {
         return other_route("a route without a colon");
@@ -122,7 +122,7 @@ fn in_route<'a>(spot: &LineContext<'a>, kind: TextKind) -> Diagnosis<'a> {
 }
 
 /// The diagnosis of a bad customer.
-fn other_customer(bytes: &[u8]) -> Diagnosis<'_> {
+fn other_customer(bytes: &[u8]) -> Diagnosis {
     Diagnosis::advised(
         "a customer, an integer from 0 to 4,294,967,295",
         Sentence::of_word(bytes),
@@ -131,7 +131,7 @@ fn other_customer(bytes: &[u8]) -> Diagnosis<'_> {
 }
 
 /// The diagnosis of a malformed route.
-fn other_route<'a>(read: &'static str) -> Diagnosis<'a> {
+fn other_route(read: &'static str) -> Diagnosis {
     Diagnosis::advised(
         ROUTE,
         Sentence::of(read),

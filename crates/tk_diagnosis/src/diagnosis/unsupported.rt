@@ -22,7 +22,7 @@ const FORMATS: &str =
 UPPER_DIAG_COL, LOWER_DIAG_COL or FUNCTION";
 
 /// The diagnosis of a keyword or a value that is not supported.
-pub fn unsupported<'a>(spot: &LineContext<'a>) -> Diagnosis<'a> {
+pub fn unsupported(spot: &LineContext<'_>) -> Diagnosis {
     match keyword_at(spot.line) {
         None => Diagnosis::new(
             Sentence::of("a keyword that tourkit supports"),
@@ -34,7 +34,7 @@ pub fn unsupported<'a>(spot: &LineContext<'a>) -> Diagnosis<'a> {
 }
 
 /// The diagnosis of a keyword or a value of a problem that is not supported.
-fn in_problem<'a>(spot: &LineContext<'a>, word: Keyword) -> Diagnosis<'a> {
+fn in_problem(spot: &LineContext<'_>, word: Keyword) -> Diagnosis {
     match word {
         Keyword::Type => other_type(spot),
         Keyword::EdgeWeightType => other_distances(spot),
@@ -51,7 +51,7 @@ fn in_problem<'a>(spot: &LineContext<'a>, word: Keyword) -> Diagnosis<'a> {
 }
 
 /// The diagnosis of a distance type that is not supported.
-fn other_distances<'a>(spot: &LineContext<'a>) -> Diagnosis<'a> {
+fn other_distances(spot: &LineContext<'_>) -> Diagnosis {
     let is_converted = is_converted(first_token(value_behind(spot.line, b':')));
     valued(
         spot,
@@ -73,7 +73,7 @@ fn is_converted(word: &[u8]) -> bool
 }
 
 /// The diagnosis of a header or a section that is not supported at all.
-fn not_supported<'a>(word: Keyword) -> Diagnosis<'a> {
+fn not_supported(word: Keyword) -> Diagnosis {
     match word {
         Keyword::Distance | Keyword::ServiceTime | Keyword::Vehicles => other_word(
             "a header that tourkit supports",
@@ -86,7 +86,7 @@ fn not_supported<'a>(word: Keyword) -> Diagnosis<'a> {
 }
 
 /// The diagnosis of a problem whose type is not supported.
-fn other_type<'a>(spot: &LineContext<'a>) -> Diagnosis<'a> {
+fn other_type(spot: &LineContext<'_>) -> Diagnosis {
     let value = first_token(value_behind(spot.line, b':'));
     if spelled(value, b"TOUR") {
         return Diagnosis::advised(
@@ -103,7 +103,7 @@ fn other_type<'a>(spot: &LineContext<'a>) -> Diagnosis<'a> {
 }
 
 /// The diagnosis of a header with a value that is not supported.
-fn valued<'a>(spot: &LineContext<'a>, wanted: &'static str, remedy: &'static str) -> Diagnosis<'a> {
+fn valued(spot: &LineContext<'_>, wanted: &'static str, remedy: &'static str) -> Diagnosis {
     let value = first_token(value_behind(spot.line, b':'));
     Diagnosis::advised(
         wanted,
@@ -113,17 +113,17 @@ fn valued<'a>(spot: &LineContext<'a>, wanted: &'static str, remedy: &'static str
 }
 
 /// The diagnosis of a keyword that is not allowed here.
-fn other_word<'a>(
+fn other_word(
     wanted: &'static str,
     word: Keyword,
     read: &'static str,
     remedy: &'static str,
-) -> Diagnosis<'a> {
+) -> Diagnosis {
     Diagnosis::advised(wanted, Sentence::of(read).keyword(word), remedy)
 }
 
 /// The diagnosis of a section of a CVRP in a TSP.
-fn for_cvrp<'a>(spot: &LineContext<'a>, word: Keyword) -> Diagnosis<'a> {
+fn for_cvrp(spot: &LineContext<'_>, word: Keyword) -> Diagnosis {
     let line = header_line(spot.text, Keyword::Type);
     let text = "Write TYPE : CVRP on line {}, or remove the whole section.";
     Diagnosis {
@@ -137,7 +137,7 @@ fn for_cvrp<'a>(spot: &LineContext<'a>, word: Keyword) -> Diagnosis<'a> {
 }
 
 /// The diagnosis of a section of weights that the headers do not announce.
-fn without_weights<'a>(spot: &LineContext<'a>) -> Diagnosis<'a> {
+fn without_weights(spot: &LineContext<'_>) -> Diagnosis {
     Diagnosis::advised(
         "no weights, since the headers do not announce any",
         weights_without_type(spot.text),
@@ -146,7 +146,7 @@ fn without_weights<'a>(spot: &LineContext<'a>) -> Diagnosis<'a> {
 }
 
 /// A sentence on why the headers do not announce a section of weights.
-fn weights_without_type(text: &[u8]) -> Sentence<'_> {
+fn weights_without_type(text: &[u8]) -> Sentence {
     if let Some(found) = header(text, Keyword::EdgeWeightType) {
         let value = first_token(found.bytes);
         if !spelled(value, b"EXPLICIT") {
@@ -161,7 +161,7 @@ fn weights_without_type(text: &[u8]) -> Sentence<'_> {
 }
 
 /// The diagnosis of a section that is not supported at all.
-fn other_section<'a>(word: Keyword) -> Diagnosis<'a> {
+fn other_section(word: Keyword) -> Diagnosis {
     let remedy = if word == Keyword::TourSection {
         "Remove the whole section. A tour needs its own file, with TYPE : TOUR."
     } else {
@@ -176,7 +176,7 @@ fn other_section<'a>(word: Keyword) -> Diagnosis<'a> {
 }
 
 /// The diagnosis of a tour file with another type, or with a keyword of problems.
-fn in_tour<'a>(spot: &LineContext<'a>, word: Keyword) -> Diagnosis<'a> {
+fn in_tour(spot: &LineContext<'_>, word: Keyword) -> Diagnosis {
     if word == Keyword::Type {
         return valued(
             spot,

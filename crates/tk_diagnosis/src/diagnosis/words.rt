@@ -44,7 +44,7 @@ fn keywords(kind: Kind) -> &'static str {
 ///
 /// # Errors
 /// `AllocError` if memory runs out.
-pub fn unknown<'a>(spot: &LineContext<'a>) -> Result<Diagnosis<'a>, AllocError> {
+pub fn unknown(spot: &LineContext<'_>) -> Result<Diagnosis, AllocError> {
     let bytes = split_word(spot.line).0;
     let here = Diagnosis::new(
         Sentence::of(keywords(spot.kind)),
@@ -57,13 +57,13 @@ pub fn unknown<'a>(spot: &LineContext<'a>) -> Result<Diagnosis<'a>, AllocError> 
 ///
 /// # Errors
 /// `AllocError` if memory runs out.
-pub fn or_nearest<'a>(
-    here: Diagnosis<'a>,
+pub fn or_nearest(
+    here: Diagnosis,
     alloc: Global,
     word: &[u8],
     names: &[&'static str],
     remedy: &'static str,
-) -> Result<Diagnosis<'a>, AllocError> {
+) -> Result<Diagnosis, AllocError> {
     match nearest(alloc, word, names)? {
         Some(name) => Ok(here.with(Sentence::of(remedy).text(name))),
         None => Ok(here),
@@ -71,7 +71,7 @@ pub fn or_nearest<'a>(
 }
 
 /// The diagnosis of a repeated header or section.
-pub fn repeated<'a>(spot: &LineContext<'a>) -> Diagnosis<'a> {
+pub fn repeated(spot: &LineContext<'_>) -> Diagnosis {
     let word = keyword_at(spot.line).unwrap_or(Keyword::Name);
     let first = header_line(spot.text, word);
     let read = Sentence::of("{} again; it is already on line {}")
@@ -86,7 +86,7 @@ pub fn repeated<'a>(spot: &LineContext<'a>) -> Diagnosis<'a> {
 }
 
 /// The remedy for a header or a section that occurs on two lines.
-fn one_of_two<'a>(word: Keyword, first: u64, second: u64) -> Sentence<'a> {
+fn one_of_two(word: Keyword, first: u64, second: u64) -> Sentence {
     if word.role() == Role::BeginsSection {
         Sentence::of("Keep one of the sections that begin on lines {} and {}.").numbers([
             first, second,
@@ -97,12 +97,12 @@ fn one_of_two<'a>(word: Keyword, first: u64, second: u64) -> Sentence<'a> {
 }
 
 /// The remedy for a line that repeats another one.
-pub fn remove_either<'a>(line: u64, other: u64) -> Sentence<'a> {
+pub fn remove_either(line: u64, other: u64) -> Sentence {
     Sentence::of("Remove line {} or line {}, whichever is wrong.").numbers([line, other])
 }
 
 /// The diagnosis of a file, a line, a word or a number that is too long.
-pub fn too_long<'a>(spot: &LineContext<'a>) -> Diagnosis<'a> {
+pub fn too_long(spot: &LineContext<'_>) -> Diagnosis {
     if spot.text.len() as u64 > TEXT_LIMIT {
         return Diagnosis::new(
             Sentence::of("a file of at most 1,073,741,824 bytes"),
@@ -132,7 +132,7 @@ pub fn too_long<'a>(spot: &LineContext<'a>) -> Diagnosis<'a> {
 }
 
 /// The diagnosis of a part of a text that is too long, with its length.
-fn long<'a>(wanted: &'static str, read: &'static str, length: usize) -> Diagnosis<'a> {
+fn long(wanted: &'static str, read: &'static str, length: usize) -> Diagnosis {
     Diagnosis::new(
         Sentence::of(wanted),
         Sentence::of(read).number(length as u64),
