@@ -4,7 +4,7 @@ ghost use Rattle.tk_problem.specs.declared.limits.TheConstants.{CITY_LIMIT};
 
 use crate::input::{Input, open};
 use crate::refusal::Refusal;
-use csv::{ByteRecord, Error, ErrorKind, ReaderBuilder, Trim};
+use csv::{ByteRecord, Error, ErrorKind, Reader, ReaderBuilder, Trim};
 use std::alloc::{AllocError, Global};
 use std::fmt;
 use std::io::Read;
@@ -92,6 +92,15 @@ fn read_names(alloc: Global, input: Input) -> Result<Vec<NodeName>, NamesFault>
         .flexible(true)
         .trim(Trim::All)
         .from_reader(alloc, input.take(LIMIT));
+    let names = names_below(alloc, &mut rows)?;
+    if rows.get_ref().limit() == 0 || names.len() > CITY_LIMIT as usize {
+        return Err(NamesFault::TooLong);
+    }
+    Ok(names)
+}
+
+/// The names of at most one node more than a problem can have, from the rows below the first.
+fn names_below<R: Read>(alloc: Global, rows: &mut Reader<R>) -> Result<Vec<NodeName>, NamesFault> {
     let mut row = ByteRecord::new(alloc);
     rows.read_byte_record(&mut row)?;
     let column = column_in(&row)?;
@@ -103,9 +112,6 @@ fn read_names(alloc: Global, input: Input) -> Result<Vec<NodeName>, NamesFault>
         if names.push(name_in(alloc, &row, column, node)?).is_err() {
             return Err(NamesFault::NoMemory);
         }
-    }
-    if rows.get_ref().limit() == 0 || names.len() > CITY_LIMIT as usize {
-        return Err(NamesFault::TooLong);
     }
     Ok(names)
 }

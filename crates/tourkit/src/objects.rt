@@ -28,13 +28,19 @@ pub struct RouteValues {
     cost: i64,
 }
 
-/// A fault of a tour or a solution. The name of the variant is the member `fault`.
+/// A fault of a tour. The name of the variant is the member `fault`.
 #[derive(Drop, Serialize)]
 #[serde(tag = "fault")]
-pub enum ListFault {
+pub enum TourFaultObject {
     WrongCount { wanted: u32, read: u64 },
     OutOfRange { place: u32, city: u32 },
     RepeatedCity { place: u32, city: u32 },
+}
+
+/// A fault of a solution. The name of the variant is the member `fault`.
+#[derive(Drop, Serialize)]
+#[serde(tag = "fault")]
+pub enum RouteFaultObject {
     BadCustomer { route: u64, customer: u32 },
     ServedTwice { customer: u32 },
     OverCapacity { route: u64, load: u64 },
@@ -43,28 +49,27 @@ pub enum ListFault {
 }
 
 /// The values or the fault of a list that should be a tour.
-pub fn tour_object(outcome: TourOutcome) -> Result<TourValues, ListFault> {
-    match outcome {
-        TourOutcome::Tour { cities, length } => Ok(TourValues { cities, length }),
-        TourOutcome::WrongCount { wanted, read } => Err(ListFault::WrongCount { wanted, read }),
-        TourOutcome::OutOfRange { place, city } => Err(ListFault::OutOfRange { place, city }),
-        TourOutcome::RepeatedCity { place, city } => Err(ListFault::RepeatedCity { place, city }),
-    }
+pub fn tour_object(outcome: TourOutcome) -> Result<TourValues, TourFaultObject> {
+    Err(match outcome {
+        TourOutcome::Tour { cities, length } => return Ok(TourValues { cities, length }),
+        TourOutcome::WrongCount { wanted, read } => TourFaultObject::WrongCount { wanted, read },
+        TourOutcome::OutOfRange { place, city } => TourFaultObject::OutOfRange { place, city },
+        TourOutcome::RepeatedCity { place, city } => TourFaultObject::RepeatedCity { place, city },
+    })
 }
 
 /// The values or the fault of a solution.
-pub fn route_object(verdict: RouteVerdict) -> Result<RouteValues, ListFault> {
-    match verdict {
-        RouteVerdict::Valid { routes, cost } => Ok(RouteValues { routes, cost }),
-        RouteVerdict::BadCustomer(route, customer) => Err(ListFault::BadCustomer {
-            route,
-            customer,
-        }),
-        RouteVerdict::ServedTwice(customer) => Err(ListFault::ServedTwice { customer }),
-        RouteVerdict::OverCapacity(route, load) => Err(ListFault::OverCapacity { route, load }),
-        RouteVerdict::NotServed(customer) => Err(ListFault::NotServed { customer }),
-        RouteVerdict::WrongCost(read, counted) => Err(ListFault::WrongCost { read, counted }),
-    }
+pub fn route_object(verdict: RouteVerdict) -> Result<RouteValues, RouteFaultObject> {
+    Err(match verdict {
+        RouteVerdict::Valid { routes, cost } => return Ok(RouteValues { routes, cost }),
+        RouteVerdict::BadCustomer(route, customer) => {
+            RouteFaultObject::BadCustomer { route, customer }
+        }
+        RouteVerdict::ServedTwice(customer) => RouteFaultObject::ServedTwice { customer },
+        RouteVerdict::OverCapacity(route, load) => RouteFaultObject::OverCapacity { route, load },
+        RouteVerdict::NotServed(customer) => RouteFaultObject::NotServed { customer },
+        RouteVerdict::WrongCost(read, counted) => RouteFaultObject::WrongCost { read, counted },
+    })
 }
 
 /// A run of a search for a tour.

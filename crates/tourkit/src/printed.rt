@@ -1,5 +1,5 @@
 //! Prints results on standard output as JSON.
-use crate::objects::{Judgement, ListFault};
+use crate::objects::Judgement;
 use crate::shown::shown_on_output;
 use serde::Serialize;
 use serde_json::to_string;
@@ -88,10 +88,10 @@ pub fn print_bytes(rt: &HostRuntime, bytes: &[u8]) -> Result<(), Unprinted> {
 ///
 /// # Errors
 /// Why it was not printed.
-pub fn print_judged<T: Serialize + Drop>(
+pub fn print_judged<T: Serialize + Drop, F: Serialize + Drop>(
     rt: &HostRuntime,
     file: Option<&str>,
-    judged: Result<T, ListFault>,
+    judged: Result<T, F>,
 ) -> Result<(), Unprinted> {
     match judged {
         Ok(values) => print_json(

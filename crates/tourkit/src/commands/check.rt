@@ -82,9 +82,19 @@ fn check_several<'a, C: Checked>(
     if !C::applies_to(&problem) {
         return Err(Refusal::Unfit(problem_file, Misfit::NotRouting));
     }
+    check_each::<C>(rt, &problem, claim_files, json)
+}
+
+/// Checks several files against a problem that has been read.
+fn check_each<'a, C: Checked>(
+    rt: &HostRuntime,
+    problem: &Problem,
+    claim_files: &[&'a str],
+    json: bool,
+) -> Result<u8, Refusal<'a>> {
     let mut highest: u8 = 0;
     for claim_file in claim_files {
-        let checked = check_file::<C>(rt, &problem, *claim_file, json);
+        let checked = check_file::<C>(rt, problem, *claim_file, json);
         highest = highest.max(end_one(rt, *claim_file, checked, json)?);
     }
     Ok(highest)

@@ -53,10 +53,21 @@ fn solve_parameters<'a>(
             let search = Search::by_keys(file, &params);
             Ok(report::end(rt, solve(rt, &search, parameters_id, shown), shown.json))
         }
-        Err(fault) if is_problem(rt, file, parameters_id, &fault) => {
-            Err(Refusal::ProblemForParameters(file, fault))
-        }
-        Err(fault) => Err(Refusal::Parameters(file, fault)),
+        Err(fault) => Err(no_parameters(rt, file, parameters_id, fault)),
+    }
+}
+
+/// The refusal of a parameter file with a fault.
+fn no_parameters<'a>(
+    rt: &HostRuntime,
+    file: &'a str,
+    id: Option<FileId>,
+    fault: ParamFault,
+) -> Refusal<'a> {
+    if is_problem(rt, file, id, &fault) {
+        Refusal::ProblemForParameters(file, fault)
+    } else {
+        Refusal::Parameters(file, fault)
     }
 }
 
@@ -100,18 +111,38 @@ fn solve<'a>(
         problem: problem.id(rt),
         initial: initial.as_ref().and_then(|initial| initial.id(rt)),
     };
-    check_written(rt, search, inputs)?;
-    let log = Log::open(rt, search, inputs, shown.log)?;
-    let mut watch = SearchWatch::new(rt, search, inputs, shown.progress, log)?;
+    let mut watch = observer_of(rt, search, inputs, shown)?;
     match outcome_of(rt.alloc(), search, problem, initial, &mut watch) {
         Ok(outcome) => {
             watch.report_limit();
             finish(rt, search, &outcome, shown.json, &mut watch)
         }
-        Err(Stop::Fault(fault)) => Err(stopped(rt, search, inputs, &fault)),
-        Err(Stop::NotForType(name)) => {
-            Err(Refusal::UnfitKey(search.problem, name, KeyMisfit::Type))
-        }
+        Err(stop) => Err(refusal_of(rt, search, inputs, stop)),
+    }
+}
+
+/// The observer of a search. The output file and the log are checked first.
+fn observer_of<'a>(
+    rt: &'a HostRuntime,
+    search: &Search<'_, 'a>,
+    inputs: InputFiles,
+    shown: DisplayOptions<'a>,
+) -> Result<SearchWatch<'a>, Refusal<'a>> {
+    check_written(rt, search, inputs)?;
+    let log = Log::open(rt, search, inputs, shown.log)?;
+    Ok(SearchWatch::new(rt, search, inputs, shown.progress, log)?)
+}
+
+/// The refusal if a search stopped before it wrote anything.
+fn refusal_of<'a>(
+    rt: &HostRuntime,
+    search: &Search<'_, 'a>,
+    inputs: InputFiles,
+    stop: Stop,
+) -> Refusal<'a> {
+    match stop {
+        Stop::Fault(fault) => stopped(rt, search, inputs, &fault),
+        Stop::NotForType(name) => Refusal::UnfitKey(search.problem, name, KeyMisfit::Type),
     }
 }
 

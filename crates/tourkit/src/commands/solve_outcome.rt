@@ -43,30 +43,57 @@ pub fn outcome_of(
     watch: &mut SearchWatch<'_>,
 ) -> Result<SearchOutcome, Stop> {
     let problem = read_problem(alloc, &mut FromRead::new(problem)).map_err(Fault::Problem)?;
-    let settings = match search.requester {
-        Requester::Keys(params) => {
-            if let Some(key) = unfit_key(params, &problem) {
-                return Err(Stop::NotForType(key.word()));
-            }
-            params.search()
-        }
+    match task_of(search, &problem)? {
+        Task::Between(settings) => between_routes(alloc, &settings, &problem, initial, watch),
+        Task::Other(settings) => other_search(alloc, &settings, &problem, initial, watch),
+    }
+}
+
+/// What is searched for, and the settings of the search.
+#[derive(Clone, Copy)]
+enum Task {
+    /// Routes, by a search between the routes of a CVRP.
+    Between(SearchSettings),
+    /// A tour, or routes that are improved each by itself.
+    Other(SearchSettings),
+}
+
+/// What a search is for, by the type of its problem.
+///
+/// # Errors
+/// The first key or option that does not apply to this type.
+fn task_of(search: &Search<'_, '_>, problem: &Problem) -> Result<Task, Stop> {
+    match search.requester {
+        Requester::Keys(params) => match unfit_key(params, problem) {
+            Some(key) => Err(Stop::NotForType(key.word())),
+            None => Ok(Task::Other(params.search())),
+        },
         Requester::Options(options, settings) => {
             let routing = problem.routing.is_some();
             if let Some(option) = unfit(options, routing) {
                 return Err(Stop::NotForType(option));
             }
             if routing && !options.within_routes {
-                let settings = between_settings(settings, options);
-                return between_routes(alloc, &settings, &problem, initial, watch);
+                return Ok(Task::Between(between_settings(settings, options)));
             }
-            settings
+            Ok(Task::Other(settings))
         }
-    };
+    }
+}
+
+/// The outcome of any other search than one between routes.
+fn other_search(
+    alloc: Global,
+    settings: &SearchSettings,
+    problem: &Problem,
+    initial: Option<Input>,
+    watch: &mut SearchWatch<'_>,
+) -> Result<SearchOutcome, Stop> {
     let initial = match initial {
         Some(tour) => Some(read_tour(alloc, &mut FromRead::new(tour)).map_err(Fault::Tour)?),
         None => None,
     };
-    Ok(search_problem(alloc, &settings, &problem, &initial, watch)?)
+    Ok(search_problem(alloc, settings, problem, &initial, watch)?)
 }
 
 /// The outcome of a search between routes.
