@@ -1,6 +1,7 @@
 //! The file next to the output file of a search that keeps its best result so far.
 use crate::file_id::{Stamp, id_of};
 use crate::judged::{Judged, judge};
+use crate::named::Named;
 use crate::part::replace;
 use crate::report;
 use crate::search::Search;
@@ -44,7 +45,7 @@ impl<'a> BestPlace<'a> {
         };
         let name = format!(in rt.alloc(); "{output}.best")?;
         let found = id_of(fs::metadata(rt, &name));
-        let is_free = inputs.protect(search, "", found).is_ok();
+        let is_free = inputs.protect(search, Named::Output, found).is_ok();
         if !is_free || !is_plain(rt, output) || !is_plain(rt, &name) {
             return Ok(None);
         }

@@ -1,6 +1,6 @@
 //! The input files of a command, one of which may be standard input.
 use crate::file_id::{FileId, id_of};
-use crate::refusal::Refusal;
+use crate::refusal::{Reason, Refusal};
 use std::fs::{self, File};
 use std::io::{self, Read, Stdin};
 use std::os::fd::AsFd;
@@ -50,12 +50,12 @@ pub fn path_of(name: &str) -> &str {
 /// Opens an input file.
 ///
 /// # Errors
-/// `Refusal::Unopened`, also for standard input if that is closed.
+/// `Reason::Unopened`, also for standard input if that is closed.
 pub fn open<'a>(rt: &HostRuntime, name: &'a str) -> Result<Input, Refusal<'a>> {
     if name == STANDARD {
         return match rt.stdin().as_fd().try_clone_to_owned() {
             Ok(_) => Ok(Input::Standard(rt.stdin())),
-            Err(_) => Err(Refusal::Unopened(name)),
+            Err(_) => Err(Reason::Unopened.about(name)),
         };
     }
     open_file(rt, name)
@@ -64,11 +64,11 @@ pub fn open<'a>(rt: &HostRuntime, name: &'a str) -> Result<Input, Refusal<'a>> {
 /// Opens an input file. `-` is a name like any other.
 ///
 /// # Errors
-/// `Refusal::Unopened`
+/// `Reason::Unopened`
 pub fn open_file<'a>(rt: &HostRuntime, name: &'a str) -> Result<Input, Refusal<'a>> {
     match File::open(rt, name) {
         Ok(file) => Ok(Input::File(file)),
-        Err(_) => Err(Refusal::Unopened(name)),
+        Err(_) => Err(Reason::Unopened.about(name)),
     }
 }
 
@@ -80,7 +80,7 @@ pub fn problem_in<'a>(rt: &HostRuntime, file: &'a str) -> Result<Problem, Refusa
     let input = open(rt, file)?;
     match read_problem(rt.alloc(), &mut FromRead::new(input)) {
         Ok(problem) => Ok(problem),
-        Err(fault) => Err(Refusal::Text(file, fault)),
+        Err(fault) => Err(Reason::Text(fault).about(file)),
     }
 }
 
@@ -88,7 +88,7 @@ pub fn problem_in<'a>(rt: &HostRuntime, file: &'a str) -> Result<Problem, Refusa
 /// the other file would get its number.
 ///
 /// # Errors
-/// `Refusal::Unopened` for the first that cannot be opened.
+/// `Reason::Unopened` for the first that cannot be opened.
 pub fn open_two<'a>(
     rt: &HostRuntime,
     first: &'a str,

@@ -1,9 +1,10 @@
 //! The log of a search: a line for each trial that improves the best result of its run.
 use crate::file_id::{FileId, id_of};
+use crate::named::Named;
 use crate::objects::{RouteImprovement, TourImprovement};
 use crate::printed::json_line;
 use crate::progress::ProgressLine;
-use crate::refusal::{KeyMisfit, Refusal};
+use crate::refusal::{KeyMisfit, Reason, Refusal};
 use crate::report;
 use crate::search::Search;
 use crate::written::InputFiles;
@@ -15,14 +16,11 @@ use std::time::{Clock, Duration};
 use tk_engines::{Progress, RouteProgress};
 use tk_params::Key;
 
-/// The name of the option in messages.
-const OPTION: &str = "--log";
-
 /// The streams that results and messages are written to. If one of them is closed, the log may get its number, and then
 /// it is rejected, too: otherwise, it would get what is written there.
-const STREAMS: [(&str, &str); 2] = [
-    ("standard output", "/dev/stdout"),
-    ("standard error", "/dev/stderr"),
+const STREAMS: [(Named, &str); 2] = [
+    (Named::StandardOutput, "/dev/stdout"),
+    (Named::StandardError, "/dev/stderr"),
 ];
 
 /// The log of a search.
@@ -140,7 +138,7 @@ fn open_file<'a>(
     check_other(rt, search, inputs, old)?;
     let opened = File::options().append(true).create(true).open(rt, name);
     let Ok(file) = opened else {
-        return Err(Refusal::Unopened(name));
+        return Err(Reason::Unopened.about(name));
     };
     if let Err(refusal) = check_other(rt, search, inputs, id_of(file.metadata())) {
         remove_new(rt, name, old);
@@ -165,11 +163,11 @@ fn check_other<'a>(
     inputs: InputFiles,
     log: Option<FileId>,
 ) -> Result<(), Refusal<'a>> {
-    inputs.protect(search, OPTION, log)?;
+    inputs.protect(search, Named::Log, log)?;
     match other_name(rt, search, inputs, log) {
         Some(other) => {
             let misfit = KeyMisfit::SameFile(other);
-            Err(Refusal::UnfitKey(search.file, OPTION, misfit))
+            Err(Reason::UnfitKey(Named::Log, misfit).about(search.file))
         }
         None => Ok(()),
     }
@@ -181,7 +179,7 @@ fn other_name(
     search: &Search<'_, '_>,
     inputs: InputFiles,
     log: Option<FileId>,
-) -> Option<&'static str> {
+) -> Option<Named> {
     log?;
     let found = |name: Option<&str>| name.and_then(|name| id_of(fs::metadata(rt, name)));
     let others = [

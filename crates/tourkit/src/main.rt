@@ -15,6 +15,7 @@ mod input;
 mod judged;
 mod log;
 mod message;
+mod named;
 mod names;
 mod objects;
 mod output;

@@ -1,5 +1,6 @@
 //! The messages of refusals.
-use crate::refusal::{KeyMisfit, Refusal};
+use crate::named::Named;
+use crate::refusal::{KeyMisfit, Reason, Refusal};
 use crate::shown::{ShownName, shown_name};
 use std::fmt;
 use tk_tour::TourFault;
@@ -7,45 +8,42 @@ use tk_tour::TourFault;
 /// The message of a refusal, as standard error shows it after the name of the program.
 #[derive(Clone, Copy)]
 pub struct Message<'a> {
-    /// The file that the message names, if any.
+    /// The file or the option that the message names, if any.
+    name: &'a str,
+    /// The file as it is shown.
     file: ShownName<'a>,
-    refusal: Refusal<'a>,
+    reason: Reason,
 }
 
 /// The message of a refusal.
 pub fn message_of<'a>(rt: &HostRuntime, refusal: &Refusal<'a>) -> Message<'a> {
-    let file = match *refusal {
-        Refusal::UnwrittenButKept(output) => output,
-        _ => refusal.file().unwrap_or(""),
-    };
     Message {
-        file: shown_name(rt, file),
-        refusal: *refusal,
+        name: refusal.about.unwrap_or(""),
+        file: shown_name(rt, refusal.about.unwrap_or("")),
+        reason: refusal.reason,
     }
 }
 
 impl fmt::Display for Message<'_> {
     fn fmt<W: fmt::Write>(&self, f: &mut fmt::Formatter<W>) -> fmt::Result {
         let file = self.file;
-        match self.refusal {
-            Refusal::NoRequest(_) => Ok(()),
-            Refusal::NotText => f.write_str("an argument is not UTF-8"),
-            Refusal::Unopened(_) => write!(f, "{file}: cannot be opened"),
-            Refusal::Text(_, fault) => write!(f, "{file}:{fault}"),
-            Refusal::Parameters(_, fault) | Refusal::ProblemForParameters(_, fault) => {
+        match self.reason {
+            Reason::NoRequest(_) => Ok(()),
+            Reason::NotText => f.write_str("an argument is not UTF-8"),
+            Reason::Unopened => write!(f, "{file}: cannot be opened"),
+            Reason::Text(fault) => write!(f, "{file}:{fault}"),
+            Reason::Parameters(fault) | Reason::ProblemForParameters(fault) => {
                 write!(f, "{file}:{fault}")
             }
-            Refusal::Initial(_, fault) => write_initial(f, file, fault),
-            Refusal::InitialRoutes(_, fault) => write!(f, "{file}: initial solution: {fault}"),
-            Refusal::Names(_, fault) => write!(f, "{file}: {fault}"),
-            Refusal::Unfit(_, misfit) => write!(f, "{file}: {}", misfit.words()),
-            Refusal::UnfitKey(_, named, misfit) => write_unfit_key(f, file, named, misfit),
-            Refusal::Option(option, kind) => write!(f, "{option}: {kind}"),
-            Refusal::Unwritten => f.write_str("write fault"),
-            Refusal::UnwrittenButKept(_) => {
-                write!(f, "write fault; the result is in {file}.best")
-            }
-            Refusal::NoMemory => f.write_str("out of memory"),
+            Reason::Initial(fault) => write_initial(f, file, fault),
+            Reason::InitialRoutes(fault) => write!(f, "{file}: initial solution: {fault}"),
+            Reason::Names(fault) => write!(f, "{file}: {fault}"),
+            Reason::Unfit(misfit) => write!(f, "{file}: {}", misfit.words()),
+            Reason::UnfitKey(named, misfit) => write_unfit_key(f, file, named, misfit),
+            Reason::Option(kind) => write!(f, "{}: {kind}", self.name),
+            Reason::Unwritten => f.write_str("write fault"),
+            Reason::UnwrittenButKept => { write!(f, "write fault; the result is in {file}.best") }
+            Reason::NoMemory => f.write_str("out of memory"),
         }
     }
 }
@@ -70,12 +68,15 @@ fn write_initial<W: fmt::Write>(
 fn write_unfit_key<W: fmt::Write>(
     f: &mut fmt::Formatter<W>,
     file: ShownName<'_>,
-    named: &str,
+    named: Named,
     misfit: KeyMisfit,
 ) -> fmt::Result {
+    let named = named.word();
     match misfit {
         KeyMisfit::Type => write!(f, "{file}: {named} does not fit the problem's type"),
-        KeyMisfit::SameFile(other) => { write!(f, "{file}: {named} is the same file as {other}") }
+        KeyMisfit::SameFile(other) => {
+            write!(f, "{file}: {named} is the same file as {}", other.word())
+        }
         KeyMisfit::ParameterFile => write!(f, "{file}: {named} is the parameter file"),
     }
 }

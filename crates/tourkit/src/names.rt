@@ -3,7 +3,7 @@ ghost use Rattle.std.specs.Prelude.{◌≤◌, IfOk, length};
 ghost use Rattle.tk_problem.specs.declared.limits.TheConstants.{CITY_LIMIT};
 
 use crate::input::{Input, open};
-use crate::refusal::Refusal;
+use crate::refusal::{Reason, Refusal};
 use csv::{ByteRecord, Error, ErrorKind, Reader, ReaderBuilder, Trim};
 use std::alloc::{AllocError, Global};
 use std::fmt;
@@ -78,8 +78,8 @@ pub fn names_in<'a>(rt: &HostRuntime, file: &'a str) -> Result<Vec<NodeName>, Re
     let input = open(rt, file)?;
     match read_names(rt.alloc(), input) {
         Ok(names) => Ok(names),
-        Err(NamesFault::NoMemory) => Err(Refusal::NoMemory),
-        Err(fault) => Err(Refusal::Names(file, fault)),
+        Err(NamesFault::NoMemory) => Err(Reason::NoMemory.alone()),
+        Err(fault) => Err(Reason::Names(fault).about(file)),
     }
 }
 

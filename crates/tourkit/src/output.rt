@@ -1,7 +1,7 @@
 //! Writes the output file of `solve`.
 use crate::file_id::{FileId, id_of};
 use crate::part::{Part, Unsaved, hindered, replace};
-use crate::refusal::Refusal;
+use crate::refusal::{Reason, Refusal};
 use std::fs::{self, File, Metadata};
 use std::io::{self, ErrorKind, Seek, SeekFrom, Write};
 use std::path::{Path, PathBuf};
@@ -127,9 +127,9 @@ fn try_save(rt: &HostRuntime, name: &str, text: &[u8]) -> Result<(), Unsaved> {
 /// The refusal if a text was not or cannot be saved under a name.
 fn refusal_of(name: &str, unsaved: Unsaved) -> Refusal<'_> {
     match unsaved {
-        Unsaved::Unwritten => Refusal::Unwritten,
-        Unsaved::NoMemory => Refusal::NoMemory,
-        Unsaved::NoOther | Unsaved::Unopened => Refusal::Unopened(name),
+        Unsaved::Unwritten => Reason::Unwritten.alone(),
+        Unsaved::NoMemory => Reason::NoMemory.alone(),
+        Unsaved::NoOther | Unsaved::Unopened => Reason::Unopened.about(name),
     }
 }
 

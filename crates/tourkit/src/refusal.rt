@@ -1,4 +1,5 @@
 //! Why a command stops.
+use crate::named::Named;
 use crate::names::NamesFault;
 use crate::printed::Unprinted;
 use std::alloc::AllocError;
@@ -15,39 +16,65 @@ pub const USAGE: u8 = 2;
 /// Exit status: a file could not be opened, read or written, or memory ran out.
 pub const SYSTEM: u8 = 3;
 
-/// Why a command stops. The first value of most variants is the name of a file.
+/// Why a command stops.
 #[derive(Clone, Copy)]
-pub enum Refusal<'a> {
+pub struct Refusal<'a> {
+    /// The file that it is about, if any. If an option has an invalid value, the option.
+    pub about: Option<&'a str>,
+    pub reason: Reason,
+}
+
+/// Why a command stops, without the name that it is about.
+#[derive(Clone, Copy)]
+pub enum Reason {
     /// The arguments make no request. What is to be said about them has been written; the value is the exit status.
     NoRequest(u8),
     /// An argument is not UTF-8.
     NotText,
     /// The file cannot be opened.
-    Unopened(&'a str),
+    Unopened,
     /// The problem, the tour or the solution in the file has this fault.
-    Text(&'a str, TextFault),
+    Text(TextFault),
     /// The parameter file has this fault.
-    Parameters(&'a str, ParamFault),
+    Parameters(ParamFault),
     /// The file is a problem file, which has this fault as a parameter file.
-    ProblemForParameters(&'a str, ParamFault),
+    ProblemForParameters(ParamFault),
     /// The initial tour in the file is not a tour of the problem's cities.
-    Initial(&'a str, TourFault),
+    Initial(TourFault),
     /// The initial solution in the file has this fault.
-    InitialRoutes(&'a str, RouteFault),
+    InitialRoutes(RouteFault),
     /// The file of names has this fault.
-    Names(&'a str, NamesFault),
+    Names(NamesFault),
     /// The file does not fit the command.
-    Unfit(&'a str, Misfit),
+    Unfit(Misfit),
     /// The key or the option with this name does not fit the problem file or the parameter file.
-    UnfitKey(&'a str, &'static str, KeyMisfit),
-    /// The option with this name has an invalid value.
-    Option(&'a str, ParamKind),
+    UnfitKey(Named, KeyMisfit),
+    /// The option has an invalid value.
+    Option(ParamKind),
     /// The output could not be written.
     Unwritten,
     /// The output could not be written, but the result is in the file with this name and `.best`.
-    UnwrittenButKept(&'a str),
+    UnwrittenButKept,
     /// Memory ran out.
     NoMemory,
+}
+
+impl Reason {
+    /// The refusal for this reason, about a file or an option.
+    pub fn about(self, name: &str) -> Refusal<'_> {
+        Refusal {
+            about: Some(name),
+            reason: self,
+        }
+    }
+
+    /// The refusal for this reason, about no file.
+    pub fn alone<'a>(self) -> Refusal<'a> {
+        Refusal {
+            about: None,
+            reason: self,
+        }
+    }
 }
 
 /// Why a file does not fit a command.
@@ -70,8 +97,8 @@ pub enum Misfit {
 pub enum KeyMisfit {
     /// It does not apply to problems of this type.
     Type,
-    /// It names the same file as this key, option or argument.
-    SameFile(&'static str),
+    /// It names the same file as this key, option, argument or stream.
+    SameFile(Named),
     /// It names the parameter file.
     ParameterFile,
 }
@@ -80,18 +107,9 @@ impl<'a> Refusal<'a> {
     /// Why an engine stopped, with the name of the file that it read.
     pub fn stopped(file: &'a str, fault: &Fault) -> Refusal<'a> {
         match *fault {
-            Fault::Problem(fault) | Fault::Tour(fault) | Fault::Solution(fault) => {
-                Refusal::Text(file, fault)
-            }
-            Fault::Initial(TourFault::NoMemory) | Fault::NoMemory => Refusal::NoMemory,
-            Fault::Initial(fault) => Refusal::Initial(file, fault),
-            Fault::InitialRoutes(fault) => Refusal::InitialRoutes(file, fault),
-            Fault::WrongType => Refusal::Unfit(file, Misfit::NotRouting),
-            Fault::NotForType(key) => Refusal::UnfitKey(file, key.word(), KeyMisfit::Type),
-            Fault::TooLarge => Refusal::Unfit(file, Misfit::TooLarge),
-            Fault::NoPlaces => Refusal::Unfit(file, Misfit::NoPlaces),
-            Fault::WrongNames(nodes) => Refusal::Names(file, NamesFault::WrongCount(nodes)),
-            Fault::Write(_) => Refusal::Unwritten,
+            Fault::Initial(TourFault::NoMemory) | Fault::NoMemory => Reason::NoMemory.alone(),
+            Fault::Write(_) => Reason::Unwritten.alone(),
+            fault => reason_of(fault).about(file),
         }
     }
 
@@ -103,40 +121,48 @@ impl<'a> Refusal<'a> {
         fault: &Fault,
     ) -> Refusal<'a> {
         match *fault {
-            Fault::Tour(fault) | Fault::Solution(fault) => Refusal::Text(claim_file, fault),
+            Fault::Tour(fault) | Fault::Solution(fault) => Reason::Text(fault).about(claim_file),
             _ => Refusal::stopped(problem_file, fault),
         }
     }
 
     /// The name of the file in the message.
     pub fn file(&self) -> Option<&'a str> {
-        match *self {
-            Refusal::Unopened(file)
-            | Refusal::Text(file, _)
-            | Refusal::Parameters(file, _)
-            | Refusal::ProblemForParameters(file, _)
-            | Refusal::Initial(file, _)
-            | Refusal::InitialRoutes(file, _)
-            | Refusal::Names(file, _)
-            | Refusal::Unfit(file, _)
-            | Refusal::UnfitKey(file, _, _) => Some(file),
-            _ => None,
+        match self.reason {
+            Reason::Option(_) | Reason::UnwrittenButKept => None,
+            _ => self.about,
         }
     }
 
     /// The exit status.
     pub fn status(&self) -> u8 {
-        match *self {
-            Refusal::NoRequest(status) => status,
-            Refusal::Text(_, fault) => status_of_text(fault.kind),
-            Refusal::Parameters(_, fault) => status_of_parameters(fault.kind),
-            Refusal::Unopened(_)
-            | Refusal::Names(_, NamesFault::Read)
-            | Refusal::Unwritten
-            | Refusal::UnwrittenButKept(_)
-            | Refusal::NoMemory => SYSTEM,
+        match self.reason {
+            Reason::NoRequest(status) => status,
+            Reason::Text(fault) => status_of_text(fault.kind),
+            Reason::Parameters(fault) => status_of_parameters(fault.kind),
+            Reason::Unopened
+            | Reason::Names(NamesFault::Read)
+            | Reason::Unwritten
+            | Reason::UnwrittenButKept
+            | Reason::NoMemory => SYSTEM,
             _ => USAGE,
         }
+    }
+}
+
+/// The reason for which an engine stopped.
+fn reason_of(fault: Fault) -> Reason {
+    match fault {
+        Fault::Problem(fault) | Fault::Tour(fault) | Fault::Solution(fault) => Reason::Text(fault),
+        Fault::Initial(fault) => Reason::Initial(fault),
+        Fault::InitialRoutes(fault) => Reason::InitialRoutes(fault),
+        Fault::WrongType => Reason::Unfit(Misfit::NotRouting),
+        Fault::NotForType(key) => Reason::UnfitKey(Named::Key(key), KeyMisfit::Type),
+        Fault::TooLarge => Reason::Unfit(Misfit::TooLarge),
+        Fault::NoPlaces => Reason::Unfit(Misfit::NoPlaces),
+        Fault::WrongNames(nodes) => Reason::Names(NamesFault::WrongCount(nodes)),
+        Fault::Write(_) => Reason::Unwritten,
+        Fault::NoMemory => Reason::NoMemory,
     }
 }
 
@@ -173,21 +199,21 @@ impl Misfit {
 
 impl From<AllocError> for Refusal<'_> {
     fn from(_error: AllocError) -> Self {
-        Refusal::NoMemory
+        Reason::NoMemory.alone()
     }
 }
 
 impl From<WriteFault> for Refusal<'_> {
     fn from(_fault: WriteFault) -> Self {
-        Refusal::Unwritten
+        Reason::Unwritten.alone()
     }
 }
 
 impl From<Unprinted> for Refusal<'_> {
     fn from(reason: Unprinted) -> Self {
         match reason {
-            Unprinted::Unwritten => Refusal::Unwritten,
-            Unprinted::NoMemory => Refusal::NoMemory,
+            Unprinted::Unwritten => Reason::Unwritten.alone(),
+            Unprinted::NoMemory => Reason::NoMemory.alone(),
         }
     }
 }
@@ -195,9 +221,9 @@ impl From<Unprinted> for Refusal<'_> {
 impl From<NoRequest> for Refusal<'_> {
     fn from(reason: NoRequest) -> Self {
         match reason {
-            NoRequest::NoMemory => Refusal::NoMemory,
-            NoRequest::Unwritten => Refusal::Unwritten,
-            NoRequest::Reported(status) => Refusal::NoRequest(status),
+            NoRequest::NoMemory => Reason::NoMemory.alone(),
+            NoRequest::Unwritten => Reason::Unwritten.alone(),
+            NoRequest::Reported(status) => Reason::NoRequest(status).alone(),
         }
     }
 }

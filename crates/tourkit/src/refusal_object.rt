@@ -1,6 +1,6 @@
 //! Refusals as JSON objects. The members are described in docs/OUTPUT.md.
 use crate::message::message_of;
-use crate::refusal::Refusal;
+use crate::refusal::{Reason, Refusal};
 use serde::{Described, Serialize, Serializer};
 use std::alloc::AllocError;
 use tk_engines::RouteFault;
@@ -82,12 +82,12 @@ impl<'a> RefusalObject<'a> {
         file: Option<&'a str>,
         refusal: &Refusal<'a>,
     ) -> Result<RefusalObject<'a>, AllocError> {
-        let named = fault_of(refusal);
+        let named = fault_of(refusal.reason);
         Ok(RefusalObject {
             file,
             refused: Refused {
                 file: refusal.file(),
-                line: line_of(refusal),
+                line: line_of(refusal.reason),
                 number: named.and_then(|named| named.number),
                 name: named.map(|named| named.name),
                 values: named.map(|named| named.values),
@@ -98,24 +98,24 @@ impl<'a> RefusalObject<'a> {
 }
 
 /// The line of the fault of a file.
-fn line_of(refusal: &Refusal<'_>) -> Option<u64> {
-    match refusal {
-        Refusal::Text(_, fault) => Some(fault.line),
-        Refusal::Parameters(_, fault) | Refusal::ProblemForParameters(_, fault) => Some(fault.line),
+fn line_of(reason: Reason) -> Option<u64> {
+    match reason {
+        Reason::Text(fault) => Some(fault.line),
+        Reason::Parameters(fault) | Reason::ProblemForParameters(fault) => Some(fault.line),
         _ => None,
     }
 }
 
 /// The fault that has a name.
-fn fault_of(refusal: &Refusal<'_>) -> Option<Named> {
-    match refusal {
-        Refusal::Text(_, fault) => Some(of_text(fault.kind)),
-        Refusal::Parameters(_, fault) | Refusal::ProblemForParameters(_, fault) => {
+fn fault_of(reason: Reason) -> Option<Named> {
+    match reason {
+        Reason::Text(fault) => Some(of_text(fault.kind)),
+        Reason::Parameters(fault) | Reason::ProblemForParameters(fault) => {
             Some(of_parameters(fault.kind))
         }
-        Refusal::Initial(_, fault) => of_initial(*fault),
-        Refusal::InitialRoutes(_, fault) => Some(of_routes(*fault)),
-        Refusal::Option(_, kind) => Some(of_parameters(*kind)),
+        Reason::Initial(fault) => of_initial(fault),
+        Reason::InitialRoutes(fault) => Some(of_routes(fault)),
+        Reason::Option(kind) => Some(of_parameters(kind)),
         _ => None,
     }
 }

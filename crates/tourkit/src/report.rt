@@ -2,7 +2,7 @@
 use crate::message::message_of;
 use crate::printed::{Unprinted, print_json};
 use crate::progress::Stage;
-use crate::refusal::{Refusal, USAGE};
+use crate::refusal::{Reason, Refusal, USAGE};
 use crate::refusal_object::RefusalObject;
 use crate::search::Search;
 use crate::shown::shown_name;
@@ -24,9 +24,9 @@ fn refuse(rt: &HostRuntime, refusal: &Refusal<'_>, json: bool) -> ExitCode {
 
 /// Prints the object of a refusal. Nothing is printed if standard output has failed, or if there is no memory for it.
 fn print_object(rt: &HostRuntime, refusal: &Refusal<'_>) {
-    match refusal {
-        Refusal::NoRequest(_) | Refusal::Unwritten | Refusal::UnwrittenButKept(_) => {}
-        Refusal::NoMemory => {
+    match refusal.reason {
+        Reason::NoRequest(_) | Reason::Unwritten | Reason::UnwrittenButKept => {}
+        Reason::NoMemory => {
             let _ = rt.stdout().write_all(NO_MEMORY);
         }
         _ => {
@@ -88,7 +88,7 @@ fn refuse_one<'a>(
 
 /// Reports a refusal in a message on standard error, and on a terminal in a tip. Returns the exit status.
 pub fn tell(rt: &HostRuntime, refusal: &Refusal<'_>) -> ExitCode {
-    if !matches!(refusal, Refusal::NoRequest(_)) {
+    if !matches!(refusal.reason, Reason::NoRequest(_)) {
         let _ = eprintln!(rt; "tourkit: {}", message_of(rt, refusal));
         if rt.stderr().is_terminal() {
             give_tip(rt, refusal);
@@ -99,15 +99,18 @@ pub fn tell(rt: &HostRuntime, refusal: &Refusal<'_>) -> ExitCode {
 
 /// Prints a tip about the fault of a file: `explain`, or the option for a search. Standard input cannot be read again.
 fn give_tip(rt: &HostRuntime, refusal: &Refusal<'_>) {
-    match *refusal {
-        Refusal::ProblemForParameters(file, _) => tip_of_search(rt, file),
-        Refusal::Text(file, _) | Refusal::Parameters(file, _)
-            if refusal.status() == USAGE && file != STANDARD => {
-            let file = shown_name(rt, file);
-            let _ = eprintln!(rt;
-                "tourkit: tip: 'tourkit explain {file}' describes the fault and how to fix it"
-            );
-        }
+    let Some(file) = refusal.file() else {
+        return;
+    };
+    match refusal.reason {
+        Reason::ProblemForParameters(_) => tip_of_search(rt, file),
+        Reason::Text(_) | Reason::Parameters(_) if refusal.status() == USAGE && file != STANDARD =>
+            {
+                let file = shown_name(rt, file);
+                let _ = eprintln!(rt;
+                    "tourkit: tip: 'tourkit explain {file}' describes the fault and how to fix it"
+                );
+            }
         _ => {}
     }
 }

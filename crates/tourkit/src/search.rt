@@ -3,6 +3,7 @@ ghost use Rattle.std.specs.Prelude.{◌≤◌, length};
 ghost use Rattle.tk_params.specs.Keys.{all_keys};
 
 use crate::input::{Input, open, open_file, open_two, path_of};
+use crate::named::Named;
 use crate::refusal::Refusal;
 use tk_command_line::SearchOptions;
 use tk_params::{Key, Params, SearchSettings};
@@ -105,7 +106,7 @@ impl<'p, 'a> Search<'p, 'a> {
     /// and the name of a file in a parameter file.
     ///
     /// # Errors
-    /// `Refusal::Unopened` for the first file that cannot be opened.
+    /// `Reason::Unopened` for the first file that cannot be opened.
     pub fn open(&self, rt: &HostRuntime) -> Result<(Input, Option<Input>), Refusal<'a>> {
         let Some(initial) = self.initial else {
             return Ok((self.open_one(rt, self.problem)?, None));
@@ -163,13 +164,13 @@ impl<'p, 'a> Search<'p, 'a> {
     }
 
     /// The name of a key in messages: that of the option, if options request the search.
-    pub fn named(&self, key: Key) -> &'static str {
+    pub fn named(&self, key: Key) -> Named {
         match key {
-            Key::ProblemFile if self.is_by_options() => "PROBLEM",
-            Key::TourFile if self.is_by_options() => "--output",
-            Key::InitialTourFile if self.begins_with_solution() => "--initial-solution",
-            Key::InitialTourFile if self.is_by_options() => "--initial-tour",
-            _ => key.word(),
+            Key::ProblemFile if self.is_by_options() => Named::Problem,
+            Key::TourFile if self.is_by_options() => Named::Output,
+            Key::InitialTourFile if self.begins_with_solution() => Named::InitialSolution,
+            Key::InitialTourFile if self.is_by_options() => Named::InitialTour,
+            _ => Named::Key(key),
         }
     }
 }

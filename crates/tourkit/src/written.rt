@@ -1,7 +1,8 @@
 //! Checks the output file of `solve` before the search.
 use crate::file_id::{FileId, id_of};
+use crate::named::Named;
 use crate::output::find_place;
-use crate::refusal::{KeyMisfit, Refusal};
+use crate::refusal::{KeyMisfit, Reason, Refusal};
 use crate::report;
 use crate::search::Search;
 use std::fs;
@@ -23,11 +24,11 @@ impl InputFiles {
     /// parameter file, which must not be overwritten.
     ///
     /// # Errors
-    /// `Refusal::UnfitKey`
+    /// `Reason::UnfitKey`
     pub fn protect<'a>(
         &self,
         search: &Search<'_, 'a>,
-        name: &'static str,
+        name: Named,
         found: Option<FileId>,
     ) -> Result<(), Refusal<'a>> {
         let misfit = match found {
@@ -36,7 +37,7 @@ impl InputFiles {
             _ if found == self.parameters => KeyMisfit::ParameterFile,
             _ => return Ok(()),
         };
-        Err(Refusal::UnfitKey(search.file, name, misfit))
+        Err(Reason::UnfitKey(name, misfit).about(search.file))
     }
 
     /// Whether the file that was found is that of the initial tour or solution.

@@ -2,7 +2,7 @@
 use crate::input::{Input, open, open_two, problem_in};
 use crate::objects::tour_object;
 use crate::printed::{Unprinted, print_judged, print_name};
-use crate::refusal::{Misfit, Refusal};
+use crate::refusal::{Misfit, Reason, Refusal};
 use crate::report::end_one;
 use std::alloc::Global;
 use std::process::ExitCode;
@@ -80,7 +80,7 @@ fn check_several<'a, C: Checked>(
 ) -> Result<u8, Refusal<'a>> {
     let problem = problem_in(rt, problem_file)?;
     if !C::applies_to(&problem) {
-        return Err(Refusal::Unfit(problem_file, Misfit::NotRouting));
+        return Err(Reason::Unfit(Misfit::NotRouting).about(problem_file));
     }
     check_each::<C>(rt, &problem, claim_files, json)
 }

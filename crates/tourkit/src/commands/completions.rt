@@ -8,7 +8,7 @@ use tk_command_line::Shell;
 /// `--completions SHELL`.
 ///
 /// # Errors
-/// `Refusal::Unwritten` if the completions cannot be written.
+/// `Reason::Unwritten` if the completions cannot be written.
 pub fn completions_command(rt: &HostRuntime, shell: Shell) -> Result<ExitCode, Refusal<'static>> {
     print_bytes(rt, completions_of(shell))?;
     Ok(ExitCode::SUCCESS)

@@ -2,7 +2,7 @@
 use crate::explained_text::{ReadFailure, read_explained};
 use crate::input::open;
 use crate::printed::print_bytes;
-use crate::refusal::{Misfit, Refusal};
+use crate::refusal::{Misfit, Reason, Refusal};
 use crate::shown::shown_on_output;
 use std::fs;
 use std::process::ExitCode;
@@ -24,7 +24,7 @@ pub fn explain_command<'a>(
     }
     match fault_page(rt.alloc(), what)? {
         Some(page) => print_page(rt, &page),
-        None if is_only_number(rt, what) => Err(Refusal::Unfit(what, Misfit::NoSuchFault)),
+        None if is_only_number(rt, what) => Err(Reason::Unfit(Misfit::NoSuchFault).about(what)),
         None => explain_file(rt, what, None),
     }
 }
@@ -44,7 +44,7 @@ fn explain_file<'a>(
     match read_explained(rt.alloc(), name, line, &mut input) {
         Ok(text) => print_text(rt, name, &text, line),
         Err(ReadFailure::Failed(text)) => Err(unread(name, &text)),
-        Err(ReadFailure::NoMemory) => Err(Refusal::NoMemory),
+        Err(ReadFailure::NoMemory) => Err(Reason::NoMemory.alone()),
     }
 }
 
@@ -66,8 +66,8 @@ fn print_text<'a>(
 /// The refusal of a file that could not be read to its end.
 fn unread<'a>(name: &'a str, text: &[u8]) -> Refusal<'a> {
     match read_failure(kind_of(text, name), text) {
-        FileFault::Text(fault) => Refusal::Text(name, fault),
-        FileFault::Parameters(fault) => Refusal::Parameters(name, fault),
+        FileFault::Text(fault) => Reason::Text(fault).about(name),
+        FileFault::Parameters(fault) => Reason::Parameters(fault).about(name),
     }
 }
 

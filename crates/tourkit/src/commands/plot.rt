@@ -6,7 +6,7 @@ use crate::commands::plot_both::plot_both;
 use crate::commands::{check, checksol};
 use crate::input::{open, open_two};
 use crate::names::names_in;
-use crate::refusal::Refusal;
+use crate::refusal::{Reason, Refusal};
 use std::process::ExitCode;
 use tk_command_line::PlotFiles;
 use tk_engines::{NodeName, NodeNames, OutputFormat, Plotted, plot_engine};
@@ -29,7 +29,9 @@ pub fn plot_command<'a>(
     let names = names_in(rt, names_file)?;
     match plot_in(rt, files, format_of(html, &names)) {
         // the refusal of an engine names the problem file, since the engine knows no files
-        Err(Refusal::Names(_, fault)) => Err(Refusal::Names(names_file, fault)),
+        Err(refusal) if matches!(refusal.reason, Reason::Names(_)) => {
+            Err(refusal.reason.about(names_file))
+        }
         ended => ended,
     }
 }

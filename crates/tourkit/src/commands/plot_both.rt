@@ -3,7 +3,7 @@ use crate::commands::plot::status_of;
 use crate::embedded::compare::{HEAD, SCRIPT, STYLE};
 use crate::input::open;
 use crate::printed::Unprinted;
-use crate::refusal::Refusal;
+use crate::refusal::{Reason, Refusal};
 use crate::shown::shown_name;
 use std::io::Write;
 use std::process::ExitCode;
@@ -48,7 +48,7 @@ fn placed_in<'a>(rt: &HostRuntime, file: &'a str) -> Result<PlacedProblem, Refus
     let input = open(rt, file)?;
     match read_placed_problem(rt.alloc(), &mut FromRead::new(input)) {
         Ok(placed) => Ok(placed),
-        Err(fault) => Err(Refusal::Text(file, fault)),
+        Err(fault) => Err(Reason::Text(fault).about(file)),
     }
 }
 
@@ -81,7 +81,7 @@ fn draw_one<'a>(
                 status: status_of(plotted),
             })
         }
-        Err(Fault::Write(_)) => Err(Refusal::NoMemory),
+        Err(Fault::Write(_)) => Err(Reason::NoMemory.alone()),
         Err(fault) => Err(Refusal::stopped_by_claim(problem_file, file, &fault)),
     }
 }
@@ -92,11 +92,11 @@ fn report<'a>(rt: &HostRuntime, file: &'a str, line: &[u8]) -> Result<(), Refusa
         return Ok(());
     }
     let Ok(()) = eprint!(rt; "{}: ", shown_name(rt, file)) else {
-        return Err(Refusal::Unwritten);
+        return Err(Reason::Unwritten.alone());
     };
     match rt.stderr().write_all(line) {
         Ok(()) => Ok(()),
-        Err(_) => Err(Refusal::Unwritten),
+        Err(_) => Err(Reason::Unwritten.alone()),
     }
 }
 

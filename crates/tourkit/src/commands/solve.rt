@@ -9,7 +9,7 @@ use crate::log::Log;
 use crate::objects::{RouteSearchObject, TourSearchObject};
 use crate::output::save;
 use crate::printed::{Unprinted, print_json, print_line};
-use crate::refusal::{KeyMisfit, Misfit, Refusal};
+use crate::refusal::{KeyMisfit, Misfit, Reason, Refusal};
 use crate::report;
 use crate::search::Search;
 use crate::vehicles::MissingVehicles;
@@ -65,9 +65,9 @@ fn no_parameters<'a>(
     fault: ParamFault,
 ) -> Refusal<'a> {
     if is_problem(rt, file, id, &fault) {
-        Refusal::ProblemForParameters(file, fault)
+        Reason::ProblemForParameters(fault).about(file)
     } else {
-        Refusal::Parameters(file, fault)
+        Reason::Parameters(fault).about(file)
     }
 }
 
@@ -142,7 +142,7 @@ fn refusal_of<'a>(
 ) -> Refusal<'a> {
     match stop {
         Stop::Fault(fault) => stopped(rt, search, inputs, &fault),
-        Stop::NotForType(name) => Refusal::UnfitKey(search.problem, name, KeyMisfit::Type),
+        Stop::NotForType(name) => Reason::UnfitKey(name, KeyMisfit::Type).about(search.problem),
     }
 }
 
@@ -157,11 +157,11 @@ fn finish<'a>(
 ) -> Result<ExitCode, Refusal<'a>> {
     let mut file = ToWrite::new(Vec::new(rt.alloc()));
     if write_found(&mut file, outcome).is_err() {
-        return Err(Refusal::NoMemory);
+        return Err(Reason::NoMemory.alone());
     }
     match print(rt, search, outcome, json) {
         Ok(()) => Ok(save_found(rt, search, outcome, &file.inner, watch)),
-        Err(Unprinted::NoMemory) => Err(Refusal::NoMemory),
+        Err(Unprinted::NoMemory) => Err(Reason::NoMemory.alone()),
         Err(Unprinted::Unwritten) => Err(unwritten(search, &file.inner, watch)),
     }
 }
@@ -208,8 +208,8 @@ fn print_object(
 /// The refusal if a write to standard output failed. The result is kept next to the output file if possible.
 fn unwritten<'a>(search: &Search<'_, 'a>, text: &[u8], watch: &mut SearchWatch<'_>) -> Refusal<'a> {
     match search.written_file() {
-        Some(output) if watch.keep_result(text) => Refusal::UnwrittenButKept(output),
-        _ => Refusal::Unwritten,
+        Some(output) if watch.keep_result(text) => Reason::UnwrittenButKept.about(output),
+        _ => Reason::Unwritten.alone(),
     }
 }
 
@@ -229,7 +229,7 @@ fn stopped<'a>(
                 && !matches!(text.kind, TextKind::Read | TextKind::NoMemory)
                 && inputs.problem.is_some()
                 && is_parameter_file(rt, search.problem) => {
-            Refusal::Unfit(search.problem, Misfit::ParameterFile)
+            Reason::Unfit(Misfit::ParameterFile).about(search.problem)
         }
         fault => Refusal::stopped(search.problem, fault),
     }

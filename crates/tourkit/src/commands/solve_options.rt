@@ -1,7 +1,7 @@
 //! A search that options request, without a parameter file.
 
 use crate::input::path_of;
-use crate::refusal::Refusal;
+use crate::refusal::{Reason, Refusal};
 use std::fs::File;
 use std::io::Read;
 use tk_command_line::SearchOptions;
@@ -47,8 +47,8 @@ fn set_key(
 ) -> Result<(), Refusal<'static>> {
     match builder.set(key, value.as_bytes()) {
         Ok(()) => Ok(()),
-        Err(ParamKind::NoMemory) => Err(Refusal::NoMemory),
-        Err(kind) => Err(Refusal::Option(option, kind)),
+        Err(ParamKind::NoMemory) => Err(Reason::NoMemory.alone()),
+        Err(kind) => Err(Reason::Option(kind).about(option)),
     }
 }
 

@@ -1,5 +1,6 @@
 //! The search of `solve`, by the type of its problem.
 use crate::input::Input;
+use crate::named::Named;
 use crate::search::{Requester, Search};
 use crate::watching::SearchWatch;
 use std::alloc::Global;
@@ -22,7 +23,7 @@ pub enum Stop {
     /// A fault of an engine.
     Fault(Fault),
     /// This key or option does not apply to the type of the problem.
-    NotForType(&'static str),
+    NotForType(Named),
 }
 
 impl From<Fault> for Stop {
@@ -65,7 +66,7 @@ enum Task {
 fn task_of(search: &Search<'_, '_>, problem: &Problem) -> Result<Task, Stop> {
     match search.requester {
         Requester::Keys(params) => match unfit_key(params, problem) {
-            Some(key) => Err(Stop::NotForType(key.word())),
+            Some(key) => Err(Stop::NotForType(Named::Key(key))),
             None => Ok(Task::Other(params.search())),
         },
         Requester::Options(options, settings) => {
@@ -114,21 +115,21 @@ fn between_routes(
 }
 
 /// The first option that does not apply to a problem with routing, or to one without.
-fn unfit(options: &SearchOptions<'_>, routing: bool) -> Option<&'static str> {
+fn unfit(options: &SearchOptions<'_>, routing: bool) -> Option<Named> {
     let given = [
-        ("--initial-tour", false, options.initial_tour.is_some()),
-        ("--construction", false, options.construction.is_some()),
+        (Named::InitialTour, false, options.initial_tour.is_some()),
+        (Named::Construction, false, options.construction.is_some()),
         (
-            "--initial-solution",
+            Named::InitialSolution,
             true,
             options.initial_solution.is_some(),
         ),
-        ("--vehicles", true, options.vehicles.is_some()),
-        ("--within-routes", true, options.within_routes),
+        (Named::Vehicles, true, options.vehicles.is_some()),
+        (Named::WithinRoutes, true, options.within_routes),
     ];
     for (option, for_routing, is_given) in &given {
         if *is_given && *for_routing != routing {
-            return Some(option);
+            return Some(*option);
         }
     }
     None
