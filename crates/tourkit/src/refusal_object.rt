@@ -66,7 +66,7 @@ impl Serialize for Values {
 
 /// A fault by its name and, if it has one, its number, with its values.
 #[derive(Clone, Copy)]
-struct Named {
+struct NamedFault {
     number: Option<u32>,
     name: &'static str,
     values: Values,
@@ -107,7 +107,7 @@ fn line_of(reason: Reason) -> Option<u64> {
 }
 
 /// The fault that has a name.
-fn fault_of(reason: Reason) -> Option<Named> {
+fn fault_of(reason: Reason) -> Option<NamedFault> {
     match reason {
         Reason::Text(fault) => Some(of_text(fault.kind)),
         Reason::Parameters(fault) | Reason::ProblemForParameters(fault) => {
@@ -121,8 +121,8 @@ fn fault_of(reason: Reason) -> Option<Named> {
 }
 
 /// A fault without values.
-fn plain(number: u32, name: &'static str) -> Named {
-    Named {
+fn plain(number: u32, name: &'static str) -> NamedFault {
+    NamedFault {
         number: Some(number),
         name,
         values: Values::None,
@@ -130,8 +130,8 @@ fn plain(number: u32, name: &'static str) -> Named {
 }
 
 /// A fault with one number.
-fn with(number: u32, name: &'static str, value: u32) -> Named {
-    Named {
+fn with(number: u32, name: &'static str, value: u32) -> NamedFault {
+    NamedFault {
         number: Some(number),
         name,
         values: Values::One(value),
@@ -139,11 +139,11 @@ fn with(number: u32, name: &'static str, value: u32) -> Named {
 }
 
 /// The fault of a text.
-fn of_text(kind: TextKind) -> Named {
+fn of_text(kind: TextKind) -> NamedFault {
     match kind {
         TextKind::UnknownKeyword => plain(1, "UnknownKeyword"),
         TextKind::Repeated => plain(2, "Repeated"),
-        TextKind::Missing(keyword) => Named {
+        TextKind::Missing(keyword) => NamedFault {
             number: Some(3),
             name: "Missing",
             values: Values::Word(keyword.word()),
@@ -152,7 +152,7 @@ fn of_text(kind: TextKind) -> Named {
         TextKind::BadNumber => plain(5, "BadNumber"),
         TextKind::OutOfLimit => plain(6, "OutOfLimit"),
         TextKind::BadNode => plain(7, "BadNode"),
-        TextKind::NotSymmetric(a, b) => Named {
+        TextKind::NotSymmetric(a, b) => NamedFault {
             number: Some(8),
             name: "NotSymmetric",
             values: Values::Two(a as u64, b as u64),
@@ -168,7 +168,7 @@ fn of_text(kind: TextKind) -> Named {
 }
 
 /// The fault of a parameter file.
-fn of_parameters(kind: ParamKind) -> Named {
+fn of_parameters(kind: ParamKind) -> NamedFault {
     match kind {
         ParamKind::UnknownKey => plain(1, "UnknownKey"),
         ParamKind::RepeatedKey => plain(2, "RepeatedKey"),
@@ -182,7 +182,7 @@ fn of_parameters(kind: ParamKind) -> Named {
 }
 
 /// The fault of an initial tour.
-fn of_initial(fault: TourFault) -> Option<Named> {
+fn of_initial(fault: TourFault) -> Option<NamedFault> {
     match fault {
         TourFault::WrongCount => Some(plain(1, "WrongCount")),
         TourFault::OutOfRange(place) => Some(with(2, "OutOfRange", place)),
@@ -192,7 +192,7 @@ fn of_initial(fault: TourFault) -> Option<Named> {
 }
 
 /// The fault of the routes of an initial solution. It has the name that `checksol` prints with `--json`.
-fn of_routes(fault: RouteFault) -> Named {
+fn of_routes(fault: RouteFault) -> NamedFault {
     let (name, values) = match fault {
         RouteFault::BadCustomer(route, customer) => {
             ("BadCustomer", Values::Two(route, customer as u64))
@@ -202,7 +202,7 @@ fn of_routes(fault: RouteFault) -> Named {
         RouteFault::NotServed(customer) => ("NotServed", Values::One(customer)),
         RouteFault::WrongCost(read, counted) => ("WrongCost", Values::Costs(read, counted)),
     };
-    Named {
+    NamedFault {
         number: None,
         name,
         values,
