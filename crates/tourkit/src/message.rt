@@ -9,8 +9,6 @@ use tk_tour::TourFault;
 #[derive(Clone, Copy)]
 pub struct Message<'a> {
     /// The file or the option that the message names, if any.
-    name: &'a str,
-    /// The file as it is shown.
     file: ShownName<'a>,
     reason: Reason,
 }
@@ -18,7 +16,6 @@ pub struct Message<'a> {
 /// The message of a refusal.
 pub fn message_of<'a>(rt: &HostRuntime, refusal: &Refusal<'a>) -> Message<'a> {
     Message {
-        name: refusal.about.unwrap_or(""),
         file: shown_name(rt, refusal.about.unwrap_or("")),
         reason: refusal.reason,
     }
@@ -40,7 +37,7 @@ impl fmt::Display for Message<'_> {
             Reason::Names(fault) => write!(f, "{file}: {fault}"),
             Reason::Unfit(misfit) => write!(f, "{file}: {}", misfit.words()),
             Reason::UnfitKey(named, misfit) => write_unfit_key(f, file, named, misfit),
-            Reason::Option(kind) => write!(f, "{}: {kind}", self.name),
+            Reason::Option(kind) => write!(f, "{file}: {kind}"),
             Reason::Unwritten => f.write_str("write fault"),
             Reason::UnwrittenButKept => { write!(f, "write fault; the result is in {file}.best") }
             Reason::NoMemory => f.write_str("out of memory"),

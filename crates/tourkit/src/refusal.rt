@@ -106,10 +106,10 @@ pub enum KeyMisfit {
 impl<'a> Refusal<'a> {
     /// Why an engine stopped, with the name of the file that it read.
     pub fn stopped(file: &'a str, fault: &Fault) -> Refusal<'a> {
-        match *fault {
-            Fault::Initial(TourFault::NoMemory) | Fault::NoMemory => Reason::NoMemory.alone(),
-            Fault::Write(_) => Reason::Unwritten.alone(),
-            fault => reason_of(fault).about(file),
+        let reason = reason_of(*fault);
+        match reason {
+            Reason::NoMemory | Reason::Unwritten => reason.alone(),
+            _ => reason.about(file),
         }
     }
 
@@ -154,6 +154,7 @@ impl<'a> Refusal<'a> {
 fn reason_of(fault: Fault) -> Reason {
     match fault {
         Fault::Problem(fault) | Fault::Tour(fault) | Fault::Solution(fault) => Reason::Text(fault),
+        Fault::Initial(TourFault::NoMemory) | Fault::NoMemory => Reason::NoMemory,
         Fault::Initial(fault) => Reason::Initial(fault),
         Fault::InitialRoutes(fault) => Reason::InitialRoutes(fault),
         Fault::WrongType => Reason::Unfit(Misfit::NotRouting),
@@ -162,7 +163,6 @@ fn reason_of(fault: Fault) -> Reason {
         Fault::NoPlaces => Reason::Unfit(Misfit::NoPlaces),
         Fault::WrongNames(nodes) => Reason::Names(NamesFault::WrongCount(nodes)),
         Fault::Write(_) => Reason::Unwritten,
-        Fault::NoMemory => Reason::NoMemory,
     }
 }
 

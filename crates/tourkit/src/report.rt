@@ -102,15 +102,15 @@ fn give_tip(rt: &HostRuntime, refusal: &Refusal<'_>) {
     let Some(file) = refusal.file() else {
         return;
     };
+    let is_explained = refusal.status() == USAGE && file != STANDARD;
     match refusal.reason {
         Reason::ProblemForParameters(_) => tip_of_search(rt, file),
-        Reason::Text(_) | Reason::Parameters(_) if refusal.status() == USAGE && file != STANDARD =>
-            {
-                let file = shown_name(rt, file);
-                let _ = eprintln!(rt;
-                    "tourkit: tip: 'tourkit explain {file}' describes the fault and how to fix it"
-                );
-            }
+        Reason::Text(_) | Reason::Parameters(_) if is_explained => {
+            let file = shown_name(rt, file);
+            let _ = eprintln!(rt;
+                "tourkit: tip: 'tourkit explain {file}' describes the fault and how to fix it"
+            );
+        }
         _ => {}
     }
 }
