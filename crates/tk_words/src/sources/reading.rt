@@ -28,18 +28,20 @@ pub fn feed_piece<P: TextReader>(
     let end = piece.len().min((limit - count) as usize);
     let mut start = 0;
     while start < end {
-        match reader.feed(&piece[start..end])? {
-            FeedResult::Done => return Ok(true),
-            FeedResult::Taken(count) => start += count,
+        match reader.feed(&piece[start..end]) {
+            Ok(FeedResult::Done) => return Ok(true),
+            Ok(FeedResult::Taken(count)) => start += count,
+            Err(fault) => return Err(fault),
         }
     }
     if end == piece.len() {
         return Ok(false);
     }
     let fault = reader.too_long();
-    match reader.feed(&piece[end..end + 1])? {
-        FeedResult::Done => Ok(true),
-        FeedResult::Taken(_) => Err(fault),
+    match reader.feed(&piece[end..end + 1]) {
+        Ok(FeedResult::Done) => Ok(true),
+        Ok(FeedResult::Taken(_)) => Err(fault),
+        Err(fault) => Err(fault),
     }
 }
 

@@ -1,35 +1,24 @@
 use Rattle.std.proofs.lemmas.Grind.{common_steps}
-use Rattle.std.proofs.Common.{◌≡◌, ◌+◌, ◌≤◌, ◌++◌, Bool, true, false, length, take, arith, subst, Result, Ok, Err}
-use Rattle.std.proofs.lemmas.Result.{err_from_is_err_and}
+use Rattle.std.proofs.Common.{◌≡◌, ◌+◌, ◌≤◌, ◌++◌, length, take, arith, subst}
 use Rattle.tk_words.proofs.DecidedTexts.{part_size, taken_on, decided_within, reported_within, too_long_at}
 use Rattle.tk_words.proofs.sources.reading.feed_piece.Goals as goal
 
--- a text that is complete or has a fault is not one that goes on
-ended : {E : Type 0} → ◌≡◌ {A = Result Bool E} (Ok true) (Ok false) → ⊥
-ended e = cc
-
-failed : {E : Type 0} (r : Result Bool E) (f : E) → r ≡ Err f → r ≡ Ok false → ⊥
-failed r f is e = cc
-
-pub returns-in_err-feed-clause-taken : goal.returns-in_err-feed-clause-taken
-returns-in_err-feed-clause-taken g c = λ before fed len.
+pub returns-in-Err-clause-taken : goal.returns-in-Err-clause-taken
+returns-in-Err-clause-taken g c = λ before fed len.
     let start = c.loop-start.start in
     let end = c.min-end.result in
-    let p = err_from_is_err_and c.from_residual.result c.from_residual.ensures.1 in
-    rw (p.1, p.2)
-    (reported_within before c.args.piece.now start end c.loop-start.invariant.within (omega (arith, c.min-end.ensures))
+    reported_within before c.args.piece.now start end c.loop-start.invariant.within (omega (arith, c.min-end.ensures))
     g.P.TextReader.texts (omega (arith, len, c.min-end.ensures, c.requires.within, c.requires.limit.0))
-    c.in_err-feed.field-0.0
-    (c.in_err-feed.ensures (before ++ take start c.args.piece.now)
-    (c.loop-start.invariant.fed before fed len)))
+    c.in-Err.fault
+    (c.in-Err.ensures (before ++ take start c.args.piece.now) (c.loop-start.invariant.fed before fed len))
 
-pub returns-in-Done-clause-taken : goal.returns-in-Done-clause-taken
-returns-in-Done-clause-taken g c = λ before fed len.
+pub returns-in-Ok-Done-clause-taken : goal.returns-in-Ok-Done-clause-taken
+returns-in-Ok-Done-clause-taken g c = λ before fed len.
     let start = c.loop-start.start in
     let end = c.min-end.result in
     let reported =
-    rw c.in-Done.is at
-    (c.in_ok-feed.ensures (before ++ take start c.args.piece.now)
+    rw c.in-Ok-Done.field-0-is at
+    (c.in-Ok-Done.ensures (before ++ take start c.args.piece.now)
     (c.loop-start.invariant.fed before fed len)) in (
       decided_within before c.args.piece.now start end c.loop-start.invariant.within
           (omega (arith, c.min-end.ensures)) g.P.TextReader.texts
@@ -44,7 +33,7 @@ loop-start-preserved g c =
     let piece = c.args.piece.now in
     let in_piece : end ≤ length piece = omega (arith, c.min-end.ensures) in
     let taken =
-    rw c.in-Taken.is at (c.in_ok-feed.ensures (c.requires.known.0 ++ take start piece)
+    rw c.in-Ok-Taken.field-0-is at (c.in-Ok-Taken.ensures (c.requires.known.0 ++ take start piece)
     (c.loop-start.invariant.fed c.requires.known.0 c.requires.known.1 c.requires.known.2)) in
     record {
       within = omega (
@@ -55,32 +44,30 @@ loop-start-preserved g c =
       );
       fed = λ before fed len.
           let taken =
-          rw c.in-Taken.is at (c.in_ok-feed.ensures (before ++ take start piece)
+          rw c.in-Ok-Taken.field-0-is at (c.in-Ok-Taken.ensures (before ++ take start piece)
           (c.loop-start.invariant.fed before fed len)) in
           subst (g.P.TextReader.fed c.feed.new.self)
-          (taken_on before piece start end c.loop-start.invariant.within in_piece c.in-Taken.count taken.1) taken.2;
+          (taken_on before piece start end c.loop-start.invariant.within in_piece c.in-Ok-Taken.count taken.1) taken.2;
     }
 
-pub returns-in_err-feed-2-clause-taken : goal.returns-in_err-feed-2-clause-taken
-returns-in_err-feed-2-clause-taken g c = λ before fed len.
+pub returns-in-Err-feed-clause-taken : goal.returns-in-Err-feed-clause-taken
+returns-in-Err-feed-clause-taken g c = λ before fed len.
     let end = c.min-end.result in
     let is : c.loop-start.start ≡ end = omega (arith, c.loop-start.invariant.within, c.loop-start-test.false) in
-    let p = err_from_is_err_and c.from_residual-in_err-feed-2.result c.from_residual-in_err-feed-2.ensures.1 in
-    rw (p.1, p.2)
-    (reported_within before c.args.piece.now end (end + 1) (omega arith)
+    reported_within before c.args.piece.now end (end + 1) (omega arith)
     (omega (arith, c.min-end.ensures, c.if-end-piece.false))
     g.P.TextReader.texts (omega (arith, len, c.min-end.ensures, c.requires.within, c.requires.limit.0))
-    c.in_err-feed-2.field-0.0
-    (c.in_err-feed-2.ensures (before ++ take end c.args.piece.now)
-    (rw is at (c.loop-start.invariant.fed before fed len))))
+    c.in-Err-feed.fault
+    (c.in-Err-feed.ensures (before ++ take end c.args.piece.now)
+    (rw is at (c.loop-start.invariant.fed before fed len)))
 
-pub returns-in-Done-2-clause-taken : goal.returns-in-Done-2-clause-taken
-returns-in-Done-2-clause-taken g c = λ before fed len.
+pub returns-in-Ok-Done-feed-clause-taken : goal.returns-in-Ok-Done-feed-clause-taken
+returns-in-Ok-Done-feed-clause-taken g c = λ before fed len.
     let end = c.min-end.result in
     let is : c.loop-start.start ≡ end = omega (arith, c.loop-start.invariant.within, c.loop-start-test.false) in
     let reported =
-    rw c.in-Done-2.is at
-    (c.in_ok-feed-2.ensures (before ++ take end c.args.piece.now)
+    rw c.in-Ok-Done-feed.field-0-is at
+    (c.in-Ok-Done-feed.ensures (before ++ take end c.args.piece.now)
     (rw is at (c.loop-start.invariant.fed before fed len))) in (
       decided_within before c.args.piece.now end (end + 1) (omega arith)
           (omega (arith, c.min-end.ensures, c.if-end-piece.false)) g.P.TextReader.texts
@@ -88,34 +75,18 @@ returns-in-Done-2-clause-taken g c = λ before fed len.
       reported.1,
     )
 
-pub returns-in-Taken-2-clause-taken : goal.returns-in-Taken-2-clause-taken
-returns-in-Taken-2-clause-taken g c = λ before fed len.
+pub returns-in-Ok-Taken-feed-clause-taken : goal.returns-in-Ok-Taken-feed-clause-taken
+returns-in-Ok-Taken-feed-clause-taken g c = λ before fed len.
     let end = c.min-end.result in
     let piece = c.args.piece.now in
     let is : c.loop-start.start ≡ end = omega (arith, c.loop-start.invariant.within, c.loop-start-test.false) in
     let now = rw is at (c.loop-start.invariant.fed before fed len) in
-    let taken = rw c.in-Taken-2.is at (c.in_ok-feed-2.ensures (before ++ take end piece) now) in
+    let taken = rw c.in-Ok-Taken-feed.field-0-is at (c.in-Ok-Taken-feed.ensures (before ++ take end piece) now) in
     rw (c.too_long-fault.ensures (before ++ take end piece) now, g.met.P.TextReader.too_long_reported _)
-    (too_long_at g.P.TextReader.texts before piece end c.in-Taken-2.field-0
+    (too_long_at g.P.TextReader.texts before piece end c.in-Ok-Taken-feed.field-0-0
     (omega (arith, c.min-end.ensures, c.if-end-piece.false))
     (omega (arith, len, c.min-end.ensures, c.if-end-piece.false, c.requires.within, c.requires.limit.0))
     taken.0 taken.1 (g.met.P.TextReader.waits _ _ taken.2))
-
-pub returns-in_err-feed-clause-room : goal.returns-in_err-feed-clause-room
-returns-in_err-feed-clause-room g c =
-    let p = err_from_is_err_and c.from_residual.result c.from_residual.ensures.1 in
-    λ on. absurd (failed c.from_residual.result p.0 p.1 on)
-
-pub returns-in-Done-clause-room : goal.returns-in-Done-clause-room
-returns-in-Done-clause-room g c = λ on. absurd (ended on)
-
-pub returns-in_err-feed-2-clause-room : goal.returns-in_err-feed-2-clause-room
-returns-in_err-feed-2-clause-room g c =
-    let p = err_from_is_err_and c.from_residual-in_err-feed-2.result c.from_residual-in_err-feed-2.ensures.1 in
-    λ on. absurd (failed c.from_residual-in_err-feed-2.result p.0 p.1 on)
-
-pub returns-in-Done-2-clause-room : goal.returns-in-Done-2-clause-room
-returns-in-Done-2-clause-room g c = λ on. absurd (ended on)
 
 pub feed-requires-clause-room : goal.feed-requires-clause-room
 feed-requires-clause-room g c = grind (arith, common_steps)
