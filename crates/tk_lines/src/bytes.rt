@@ -219,9 +219,10 @@ impl<F: Handler> PieceReader<F> {
         if !self.ends_with(byte) {
             return self.feed_settled(byte);
         }
-        match self.close()? {
-            Flow::Whole => Ok(Flow::Whole),
-            Flow::On => self.feed_settled(byte),
+        match self.close() {
+            Ok(Flow::On) => self.feed_settled(byte),
+            Ok(Flow::Whole) => Ok(Flow::Whole),
+            Err(fault) => Err(fault),
         }
     }
 }

@@ -51,9 +51,10 @@ impl<F: Handler> PieceReader<F> {
         requires { IsFed F.promise at_end self.old }
         ensures { Finishes F.promise self.old self.new result }
     {
-        match self.close()? {
-            Flow::Whole => return Ok(()),
-            Flow::On => {}
+        match self.close() {
+            Ok(Flow::On) => {}
+            Ok(Flow::Whole) => return Ok(()),
+            Err(fault) => return Err(fault),
         }
         match self.place {
             LineState::Value(word) => self.end_value(word),
@@ -86,14 +87,16 @@ impl<F: Handler> TextReader for PieceReader<F> {
     ghost waits = { λ reader before waits. waits.undecided };
 
     fn feed(&mut self, bytes: &[u8]) -> Result<FeedResult, TextFault> {
-        match self.feed_tokens(bytes)? {
-            FeedResult::Done => return Ok(FeedResult::Done),
-            FeedResult::Taken(0) => {}
-            FeedResult::Taken(count) => return Ok(FeedResult::Taken(count)),
+        match self.feed_tokens(bytes) {
+            Ok(FeedResult::Done) => return Ok(FeedResult::Done),
+            Ok(FeedResult::Taken(0)) => {}
+            Ok(FeedResult::Taken(count)) => return Ok(FeedResult::Taken(count)),
+            Err(fault) => return Err(fault),
         }
-        match self.feed_byte(bytes[0])? {
-            Flow::On => Ok(FeedResult::Taken(1)),
-            Flow::Whole => Ok(FeedResult::Done),
+        match self.feed_byte(bytes[0]) {
+            Ok(Flow::On) => Ok(FeedResult::Taken(1)),
+            Ok(Flow::Whole) => Ok(FeedResult::Done),
+            Err(fault) => Err(fault),
         }
     }
 

@@ -22,9 +22,10 @@ impl<F: Handler> PieceReader<F> {
         requires known { (before : List ℕ) × IsInSection F.promise (this byte) self.old token.now before }
         ensures { TakesWhole F.promise token.now self.old self.new byte result }
     {
-        match self.take_token(token)? {
-            Flow::Whole => Ok(Flow::Whole),
-            Flow::On => self.feed_next(byte),
+        match self.take_token(token) {
+            Ok(Flow::On) => self.feed_next(byte),
+            Ok(Flow::Whole) => Ok(Flow::Whole),
+            Err(fault) => Err(fault),
         }
     }
 
@@ -59,9 +60,10 @@ impl<F: Handler> PieceReader<F> {
                 break;
             };
             let end = start + token.len();
-            match self.feed_whole(&token, bytes[end])? {
-                Flow::Whole => return Ok(FeedResult::Done),
-                Flow::On => start = end + 1,
+            match self.feed_whole(&token, bytes[end]) {
+                Ok(Flow::On) => start = end + 1,
+                Ok(Flow::Whole) => return Ok(FeedResult::Done),
+                Err(fault) => return Err(fault),
             }
         }
         Ok(FeedResult::Taken(start))

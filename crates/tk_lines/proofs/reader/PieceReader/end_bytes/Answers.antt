@@ -1,47 +1,48 @@
 use Rattle.std.proofs.Common.{ap, Ok}
-use Rattle.std.proofs.lemmas.Result.{err_from_is_err_and}
 use Rattle.tk_lines.specs.declared.line_state.LineState.TheVariants as places
 use Rattle.tk_lines.specs.Reader.Places.{at_end}
 use Rattle.tk_lines.proofs.KnownStates.{at_place}
 use Rattle.tk_lines.proofs.Endings.ReaderEnds.{end_begin, end_closes, nothing_open, reported_ended, decides_ended}
 use Rattle.tk_lines.proofs.reader.PieceReader.end_bytes.Goals as goal
 
-pub returns-in_err-close : goal.returns-in_err-close
-returns-in_err-close g c = λ before fed.
-    let p = err_from_is_err_and c.from_residual.result c.from_residual.ensures.1 in
-    rw (p.1, p.2)
-    (reported_ended g.F.Handler.promise.format before c.in_err-close.field-0.0
-    (c.in_err-close.ensures.closed at_end before (end_closes c.args.self.now.place) fed))
+pub returns-in-Err : goal.returns-in-Err
+returns-in-Err g c = λ before fed.
+    reported_ended g.F.Handler.promise.format before c.in-Err.fault
+    (c.in-Err.ensures.closed at_end before (end_closes c.args.self.now.place) fed)
 
-pub returns-in-Whole : goal.returns-in-Whole
-returns-in-Whole g c = λ before fed.
+pub returns-in-Ok-Whole : goal.returns-in-Ok-Whole
+returns-in-Ok-Whole g c = λ before fed.
     let whole =
-    rw c.in-Whole.is at (c.in_ok-close.ensures.closed at_end before (end_closes c.args.self.now.place) fed) in
+    rw c.in-Ok-Whole.field-0-is at
+    (c.in-Ok-Whole.ensures.closed at_end before (end_closes c.args.self.now.place) fed) in
     (decides_ended g.F.Handler.promise.format before _ whole.0, whole.1)
 
 pub returns-in-Value : goal.returns-in-Value
 returns-in-Value g c = λ before fed.
     c.end_value.ensures before
-    (rw c.in-On.is at (c.in_ok-close.ensures.closed at_end before (end_closes c.args.self.now.place) fed))
+    (rw c.in-Ok-On.field-0-is at (c.in-Ok-On.ensures.closed at_end before (end_closes c.args.self.now.place) fed))
 
 pub returns-in-Begin : goal.returns-in-Begin
 returns-in-Begin g c = λ before fed.
-    let now = rw c.in-On.is at (c.in_ok-close.ensures.closed at_end before (end_closes c.args.self.now.place) fed) in
+    let now =
+    rw c.in-Ok-On.field-0-is at (c.in-Ok-On.ensures.closed at_end before (end_closes c.args.self.now.place) fed) in
     c.end_section.ensures before
     (end_begin g.F.Handler.promise.format g.F.Handler.promise.holds g.F.Handler.promise.wants c.close.new.self.form
     c.close.new.self.line before c.close.new.self.held (at_place places.Begin c.in-Begin.is now))
 
 pub returns-in-Gap : goal.returns-in-Gap
 returns-in-Gap g c = λ before fed.
-    let now = rw c.in-On.is at (c.in_ok-close.ensures.closed at_end before (end_closes c.args.self.now.place) fed) in
+    let now =
+    rw c.in-Ok-On.field-0-is at (c.in-Ok-On.ensures.closed at_end before (end_closes c.args.self.now.place) fed) in
     c.end_section-in-Gap.ensures before (at_place places.Gap c.in-Gap.is now)
 
 pub returns-in_default : goal.returns-in_default
 returns-in_default g c = λ before fed.
-    let now = rw c.in-On.is at (c.in_ok-close.ensures.closed at_end before (end_closes c.args.self.now.place) fed) in
+    let now =
+    rw c.in-Ok-On.field-0-is at (c.in-Ok-On.ensures.closed at_end before (end_closes c.args.self.now.place) fed) in
     let r = c.close.new.self in
     c.end_text.ensures before
     (nothing_open g.F.Handler.promise.format g.F.Handler.promise.holds g.F.Handler.promise.wants r.form r.line r.held
     r.scan
-    before r.place (c.in_ok-close.ensures.settled (ap Ok c.in-On.is)) c.in_default.not-Value c.in_default.not-Begin
-    c.in_default.not-Gap now.at)
+    before r.place (c.in-Ok-On.ensures.settled (ap Ok c.in-Ok-On.field-0-is)) c.in_default.not-Value
+    c.in_default.not-Begin c.in_default.not-Gap now.at)

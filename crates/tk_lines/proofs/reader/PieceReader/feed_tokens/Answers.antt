@@ -1,5 +1,4 @@
 use Rattle.std.proofs.Common.{ℕ, List, ◌+◌, ◌++◌, take, arith, subst, Ok, Err}
-use Rattle.std.proofs.lemmas.Result.{err_from_is_err_and}
 use Rattle.tk_lines.specs.declared.line_state.Flow.TheVariants.{Whole}
 use Rattle.tk_lines.specs.Reader.Places.{Fed, anything}
 use Rattle.tk_lines.specs.Reader.Steps.{HasCome}
@@ -34,35 +33,33 @@ feed_whole-requires-clause-known g c =
           c.in-Gap.is (c.loop-self.invariant.fed before c.requires.1)),
     )
 
-pub returns-in_err-feed_whole : goal.returns-in_err-feed_whole
-returns-in_err-feed_whole g c = λ before fed.
+pub returns-in-Err : goal.returns-in-Err
+returns-in-Err g c = λ before fed.
     let bytes = c.args.bytes.now in
     let s = c.loop-self.start in
     let le = c.loop-self.invariant.within in
     let token = c.in-Some.token in
     let reported =
-    c.in_err-feed_whole.ensures _ (token_stands bytes s le token c.in-Some.ensures _ c.len.ensures c.loop-self.self
+    c.in-Err.ensures _ (token_stands bytes s le token c.in-Some.ensures _ c.len.ensures c.loop-self.self
     before c.in-Gap.is
-    (c.loop-self.invariant.fed before fed)) in
-    let p = err_from_is_err_and c.from_residual.result c.from_residual.ensures.1 in
-    rw (p.1, p.2) (
+    (c.loop-self.invariant.fed before fed)) in (
       s + c.len.result + 1,
       omega (arith, token_within bytes s le token c.in-Some.ensures _ c.len.ensures),
       (subst
           (λ (l : List ℕ). HasCome g.F.Handler.promise anything c.feed_whole.new.self l
-          (Err c.in_err-feed_whole.field-0.0))
+          (Err c.in-Err.fault))
           (token_taken bytes s le token c.in-Some.ensures _ c.len.ensures before) reported),
     )
 
-pub returns-in-Whole : goal.returns-in-Whole
-returns-in-Whole g c = λ before fed.
+pub returns-in-Ok-Whole : goal.returns-in-Ok-Whole
+returns-in-Ok-Whole g c = λ before fed.
     let bytes = c.args.bytes.now in
     let s = c.loop-self.start in
     let le = c.loop-self.invariant.within in
     let token = c.in-Some.token in
     let whole =
-    rw c.in-Whole.is at
-    (c.in_ok-feed_whole.ensures _ (token_stands bytes s le token c.in-Some.ensures _ c.len.ensures c.loop-self.self
+    rw c.in-Ok-Whole.field-0-is at
+    (c.in-Ok-Whole.ensures _ (token_stands bytes s le token c.in-Some.ensures _ c.len.ensures c.loop-self.self
     before c.in-Gap.is
     (c.loop-self.invariant.fed before fed))) in (
       s + c.len.result + 1,
@@ -82,8 +79,8 @@ loop-self-preserved g c =
       fed = λ before fed.
           (subst (λ (l : List ℕ). Fed g.F.Handler.promise anything c.feed_whole.new.self l)
           (token_taken bytes s le token c.in-Some.ensures _ c.len.ensures before)
-          (rw c.in-On.is at
-          (c.in_ok-feed_whole.ensures _ (token_stands bytes s le token c.in-Some.ensures _ c.len.ensures
+          (rw c.in-Ok-On.field-0-is at
+          (c.in-Ok-On.ensures _ (token_stands bytes s le token c.in-Some.ensures _ c.len.ensures
           c.loop-self.self before c.in-Gap.is
           (c.loop-self.invariant.fed before fed)))));
     }
