@@ -13,7 +13,7 @@ use tk_diagnosis::{Diagnosis, FileFault, LineContext, Remark, diagnosis_at, show
 use tk_kinds::{Kind, kind_of, wrapping_of};
 use tk_problem::Weights;
 use tk_problem_text::read_placed_problem;
-use tk_words::TextKind;
+use tk_words::{TextFault, TextKind};
 
 /// A file that is explained.
 #[derive(Clone, Copy)]
@@ -77,17 +77,22 @@ fn has_explicit_weights(sound: &Valid) -> bool {
     }
 }
 
-/// Adds the fault of the display data of a problem, which only `plot` reports, if there is one.
+/// Adds the fault of the display data of a problem, if there is one.
 fn add_display(page: &mut Page, file: &File<'_>) -> Result<(), AllocError> {
-    match read_placed_problem(file.alloc, &mut Whole { bytes: file.text }) {
-        Ok(_) => Ok(()),
-        Err(fault) if fault.kind == TextKind::NoMemory => Err(AllocError),
-        Err(fault) => {
+    match display_fault(file) {
+        None => Ok(()),
+        Some(fault) if fault.kind == TextKind::NoMemory => Err(AllocError),
+        Some(fault) => {
             page.line(&"But tourkit plot cannot draw it, because its display data have a fault:")?;
             page.line(&"")?;
             add_fault(page, file, &FileFault::Text(fault))
         }
     }
+}
+
+/// The fault of the display data of a problem, which only `plot` reports.
+fn display_fault(file: &File<'_>) -> Option<TextFault> {
+    read_placed_problem(file.alloc, &mut Whole { bytes: file.text }).err()
 }
 
 /// Adds a summary of a file without a fault, the line that a remark is about, and what to do.
