@@ -50,7 +50,9 @@ fn page_of(file: &File<'_>, line: Option<u64>) -> Result<FilePage, AllocError>
     ensures words { IfOk result (λ page. 0 < string_len page.text) }
 {
     let answer = answer_to(file.alloc, file.kind, file.text)?;
-    page_of_answer(file, &answer, line)
+    let page = page_of_answer(file, &answer, line);
+    drop(answer);
+    page
 }
 
 /// Like `page_of`, given the answer of the reader of the file.

@@ -101,5 +101,8 @@ fn add_wanted(
 
 /// The fault of a file, if it is read as a file of this kind.
 fn fault_as(file: &File<'_>, kind: Kind) -> Result<Option<FileFault>, AllocError> {
-    Ok(answer_to(file.alloc, kind, file.text)?.fault())
+    let answer = answer_to(file.alloc, kind, file.text)?;
+    let fault = answer.fault();
+    drop(answer);
+    Ok(fault)
 }
