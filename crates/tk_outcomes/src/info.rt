@@ -18,7 +18,7 @@ pub struct ProblemInfo {
 }
 
 /// How the distances of a problem are given.
-#[derive(Clone, Copy, PartialEq, Eq)]
+#[derive(Clone, Copy)]
 pub enum DistanceInfo {
     /// By coordinates, with this distance type.
     Plane(PlaneKind, Area),
@@ -27,7 +27,7 @@ pub enum DistanceInfo {
 }
 
 /// The coordinates of a problem, in units of 10^-9: their bounds, and whether all are whole.
-#[derive(Clone, Copy, PartialEq, Eq)]
+#[derive(Clone, Copy)]
 pub struct Area {
     /// Whether all coordinates are whole numbers.
     pub whole: bool,
@@ -42,7 +42,7 @@ pub struct Area {
 }
 
 /// The routing data of a CVRP.
-#[derive(Clone, Copy, PartialEq, Eq)]
+#[derive(Clone, Copy)]
 pub struct RoutingInfo {
     /// The maximum load of a vehicle.
     pub capacity: u32,

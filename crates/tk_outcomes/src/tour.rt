@@ -10,7 +10,7 @@ use tk_problem::Problem;
 use tk_tour::{Verdict, length};
 
 /// The outcome of the check of a list as a tour: its length, or its first fault.
-#[derive(Clone, Copy, PartialEq, Eq, Debug)]
+#[derive(Clone, Copy, Debug)]
 pub enum TourOutcome {
     /// The list is a tour.
     Tour {

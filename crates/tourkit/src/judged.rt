@@ -12,7 +12,7 @@ use tk_tour::{Verdict, check, length};
 use tk_words::{FromRead, Source, TextFault, TextKind};
 
 /// What a text contains, as a solution of a problem.
-#[derive(Clone, Copy, PartialEq, Eq)]
+#[derive(Clone, Copy)]
 pub enum Judged {
     /// A tour of the problem's cities, of this length.
     Tour(i64),

@@ -9,7 +9,7 @@ use std::io::Write;
 use tk_writers::WriteFault;
 
 /// Why a result was not printed.
-#[derive(Clone, Copy, PartialEq, Eq)]
+#[derive(Clone, Copy)]
 pub enum Unprinted {
     /// A write to standard output failed.
     Unwritten,

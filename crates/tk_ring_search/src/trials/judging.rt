@@ -4,7 +4,7 @@ ghost use Rattle.tk_ring_search.specs.Judging.{IsJudged, cost_after, limit_of, s
 ghost use Rattle.tk_ring_search.specs.Totals.{is_better, is_copied, is_kicked};
 
 /// What became of the result of a trial.
-#[derive(Clone, Copy, PartialEq, Eq)]
+#[derive(Clone, Copy)]
 pub enum Outcome {
     /// There was no kick, and nothing changed.
     Idle,
