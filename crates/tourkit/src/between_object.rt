@@ -1,5 +1,5 @@
 //! The outcome of a search between routes as a JSON object. The members are described in docs/OUTPUT.md.
-use crate::objects::words_of;
+use crate::objects::{RunObject, words_of};
 use serde::Serialize;
 use std::alloc::{AllocError, Global};
 use tk_engines::{FoundBetween, Key, RouteRun};
@@ -12,25 +12,12 @@ struct StartObject {
     candidates: Option<u32>,
 }
 
-/// A run of a search between routes.
-#[derive(Clone, Copy, Serialize)]
-struct RouteRunObject {
-    run: u64,
-    start: i64,
-    best: i64,
-    routes: u32,
-    trials: u64,
-    moves: u128,
-    tests: u128,
-    swaps: u64,
-}
-
 /// The outcome of a search between routes.
 #[derive(Drop, Serialize)]
 pub struct BetweenObject {
     ignored: Vec<&'static str>,
     start: StartObject,
-    runs: Vec<RouteRunObject>,
+    runs: Vec<RunObject>,
     best: i64,
     routes: u64,
     #[serde(skip_serializing_if = "Option::is_none")]
@@ -65,7 +52,7 @@ impl BetweenObject {
 }
 
 /// The objects of runs, which are numbered from 1.
-fn runs_of(alloc: Global, runs: &[RouteRun]) -> Result<Vec<RouteRunObject>, AllocError> {
+fn runs_of(alloc: Global, runs: &[RouteRun]) -> Result<Vec<RunObject>, AllocError> {
     let mut objects = Vec::new(alloc);
     for i in 0..runs.len() {
         objects.push(run_object(i as u64 + 1, &runs[i]))?;
@@ -74,16 +61,16 @@ fn runs_of(alloc: Global, runs: &[RouteRun]) -> Result<Vec<RouteRunObject>, Allo
 }
 
 /// The object of a run.
-fn run_object(run: u64, report: &RouteRun) -> RouteRunObject {
+fn run_object(run: u64, report: &RouteRun) -> RunObject {
     let totals = &report.totals;
-    RouteRunObject {
+    RunObject {
         run,
         start: totals.start,
         best: report.best,
-        routes: report.routes,
-        trials: totals.trials,
+        routes: Some(report.routes),
+        trials: totals.trials as u128,
         moves: totals.moves,
         tests: totals.tests,
-        swaps: totals.swaps,
+        swaps: totals.swaps as u128,
     }
 }

@@ -72,16 +72,19 @@ pub fn route_object(verdict: RouteVerdict) -> Result<RouteValues, RouteFaultObje
     })
 }
 
-/// A run of a search for a tour.
-#[derive(Drop, Serialize)]
+/// A run of a search.
+#[derive(Clone, Copy, Serialize)]
 pub struct RunObject {
-    run: u64,
-    start: i64,
-    best: i64,
-    trials: u128,
-    moves: u128,
-    tests: u128,
-    swaps: u128,
+    pub run: u64,
+    pub start: i64,
+    pub best: i64,
+    /// The number of routes; none for a tour.
+    #[serde(skip_serializing_if = "Option::is_none")]
+    pub routes: Option<u32>,
+    pub trials: u128,
+    pub moves: u128,
+    pub tests: u128,
+    pub swaps: u128,
 }
 
 /// The outcome of a search for a tour.
@@ -198,6 +201,7 @@ fn run_object(run: u64, report: &RunReport) -> RunObject {
         run,
         start: totals.start,
         best: report.best,
+        routes: None,
         trials: totals.trials,
         moves: totals.moves,
         tests: totals.tests,

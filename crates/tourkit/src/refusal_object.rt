@@ -1,7 +1,7 @@
 //! Refusals as JSON objects. The members are described in docs/OUTPUT.md.
 use crate::message::message_of;
 use crate::refusal::{Reason, Refusal};
-use serde::{Described, Serialize, Serializer};
+use serde::Serialize;
 use std::alloc::AllocError;
 use tk_engines::RouteFault;
 use tk_params::ParamKind;
@@ -23,50 +23,26 @@ struct Refused<'a> {
     file: Option<&'a str>,
     #[serde(skip_serializing_if = "Option::is_none")]
     line: Option<u64>,
-    #[serde(skip_serializing_if = "Option::is_none")]
-    number: Option<u32>,
-    #[serde(skip_serializing_if = "Option::is_none")]
-    name: Option<&'static str>,
-    #[serde(skip_serializing_if = "Option::is_none")]
-    values: Option<Values>,
+    #[serde(flatten, skip_serializing_if = "Option::is_none")]
+    fault: Option<NamedFault>,
     message: String,
 }
 
 /// The values of a fault, which its message has after its name. As JSON, they are an array.
-#[derive(Clone, Copy)]
+#[derive(Clone, Copy, Serialize)]
+#[serde(untagged)]
 enum Values {
-    None,
-    Word(&'static str),
-    One(u32),
-    Two(u64, u64),
-    Costs(i64, i64),
-}
-
-impl Described for Values {}
-
-impl Serialize for Values {
-    fn serialize<S: Serializer>(&self, out: &mut S) -> Result<(), S::Error> {
-        out.begin_seq(None)?;
-        match *self {
-            Values::None => {}
-            Values::Word(word) => out.str(word)?,
-            Values::One(number) => out.u64(number as u64)?,
-            Values::Two(first, second) => {
-                out.u64(first)?;
-                out.u64(second)?;
-            }
-            Values::Costs(first, second) => {
-                out.i64(first)?;
-                out.i64(second)?;
-            }
-        }
-        out.end_seq()
-    }
+    None([u32; 0]),
+    Word((&'static str,)),
+    One([u32; 1]),
+    Two([u64; 2]),
+    Costs([i64; 2]),
 }
 
 /// A fault by its name and, if it has one, its number, with its values.
-#[derive(Clone, Copy)]
+#[derive(Clone, Copy, Serialize)]
 struct NamedFault {
+    #[serde(skip_serializing_if = "Option::is_none")]
     number: Option<u32>,
     name: &'static str,
     values: Values,
@@ -82,15 +58,12 @@ impl<'a> RefusalObject<'a> {
         file: Option<&'a str>,
         refusal: &Refusal<'a>,
     ) -> Result<RefusalObject<'a>, AllocError> {
-        let named = fault_of(refusal.reason);
         Ok(RefusalObject {
             file,
             refused: Refused {
                 file: refusal.file(),
                 line: line_of(refusal.reason),
-                number: named.and_then(|named| named.number),
-                name: named.map(|named| named.name),
-                values: named.map(|named| named.values),
+                fault: fault_of(refusal.reason),
                 message: format!(in rt.alloc(); "{}", message_of(rt, refusal))?,
             },
         })
@@ -125,7 +98,7 @@ fn plain(number: u32, name: &'static str) -> NamedFault {
     NamedFault {
         number: Some(number),
         name,
-        values: Values::None,
+        values: Values::None([]),
     }
 }
 
@@ -134,7 +107,7 @@ fn with(number: u32, name: &'static str, value: u32) -> NamedFault {
     NamedFault {
         number: Some(number),
         name,
-        values: Values::One(value),
+        values: Values::One([value]),
     }
 }
 
@@ -146,7 +119,7 @@ fn of_text(kind: TextKind) -> NamedFault {
         TextKind::Missing(keyword) => NamedFault {
             number: Some(3),
             name: "Missing",
-            values: Values::Word(keyword.word()),
+            values: Values::Word((keyword.word(),)),
         },
         TextKind::Unsupported => plain(4, "Unsupported"),
         TextKind::BadNumber => plain(5, "BadNumber"),
@@ -155,7 +128,7 @@ fn of_text(kind: TextKind) -> NamedFault {
         TextKind::NotSymmetric(a, b) => NamedFault {
             number: Some(8),
             name: "NotSymmetric",
-            values: Values::Two(a as u64, b as u64),
+            values: Values::Two([a as u64, b as u64]),
         },
         TextKind::Truncated => plain(9, "Truncated"),
         TextKind::TrailingData => plain(10, "TrailingData"),
@@ -195,12 +168,12 @@ fn of_initial(fault: TourFault) -> Option<NamedFault> {
 fn of_routes(fault: RouteFault) -> NamedFault {
     let (name, values) = match fault {
         RouteFault::BadCustomer(route, customer) => {
-            ("BadCustomer", Values::Two(route, customer as u64))
+            ("BadCustomer", Values::Two([route, customer as u64]))
         }
-        RouteFault::ServedTwice(customer) => ("ServedTwice", Values::One(customer)),
-        RouteFault::OverCapacity(route, load) => ("OverCapacity", Values::Two(route, load)),
-        RouteFault::NotServed(customer) => ("NotServed", Values::One(customer)),
-        RouteFault::WrongCost(read, counted) => ("WrongCost", Values::Costs(read, counted)),
+        RouteFault::ServedTwice(customer) => ("ServedTwice", Values::One([customer])),
+        RouteFault::OverCapacity(route, load) => ("OverCapacity", Values::Two([route, load])),
+        RouteFault::NotServed(customer) => ("NotServed", Values::One([customer])),
+        RouteFault::WrongCost(read, counted) => ("WrongCost", Values::Costs([read, counted])),
     };
     NamedFault {
         number: None,

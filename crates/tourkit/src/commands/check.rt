@@ -1,7 +1,7 @@
 //! The subcommand `check`, and what it has in common with `checksol`.
 use crate::input::{Input, open, open_two, problem_in};
 use crate::objects::tour_object;
-use crate::printed::{Unprinted, print_judged, print_name};
+use crate::printed::{print_judged, print_name};
 use crate::refusal::{Misfit, Reason, Refusal};
 use crate::report::end_one;
 use std::alloc::Global;
@@ -35,7 +35,12 @@ pub trait Checked: Sized {
     ///
     /// # Errors
     /// Why it was not printed.
-    fn print(self, rt: &HostRuntime, file: Option<&str>, json: bool) -> Result<u8, Unprinted>;
+    fn print<'a>(
+        self,
+        rt: &HostRuntime,
+        file: Option<&'a str>,
+        json: bool,
+    ) -> Result<u8, Refusal<'a>>;
 }
 
 /// `check PROBLEM TOUR.. [--json]`, or the same for solutions.
@@ -49,10 +54,10 @@ pub fn check_command<'a, C: Checked>(
     json: bool,
 ) -> Result<ExitCode, Refusal<'a>> {
     let status = match claim_files {
-        [claim_file] => check_one::<C>(rt, problem_file, *claim_file, json)?,
-        _ => check_several::<C>(rt, problem_file, claim_files, json)?,
+        [claim_file] => check_one::<C>(rt, problem_file, *claim_file, json),
+        _ => check_several::<C>(rt, problem_file, claim_files, json),
     };
-    Ok(ExitCode::from(status))
+    Ok(ExitCode::from(status?))
 }
 
 /// Checks a tour or a solution, and returns the exit status. Both files are opened before either is read.
@@ -65,7 +70,7 @@ fn check_one<'a, C: Checked>(
     let (problem, claim) = open_two(rt, problem_file, claim_file)?;
     let mut problem = FromRead::new(problem);
     match C::of_texts(rt.alloc(), &mut problem, &mut FromRead::new(claim)) {
-        Ok(checked) => Ok(checked.print(rt, None, json)?),
+        Ok(checked) => checked.print(rt, None, json),
         Err(fault) => Err(Refusal::stopped_by_claim(problem_file, claim_file, &fault)),
     }
 }
@@ -109,7 +114,7 @@ fn check_file<'a, C: Checked>(
 ) -> Result<u8, Refusal<'a>> {
     let claim = open(rt, claim_file)?;
     match C::of(rt.alloc(), problem, &mut FromRead::new(claim)) {
-        Ok(checked) => Ok(checked.print(rt, Some(claim_file), json)?),
+        Ok(checked) => checked.print(rt, Some(claim_file), json),
         Err(fault) => Err(Refusal::stopped(claim_file, &fault)),
     }
 }
@@ -131,7 +136,12 @@ impl Checked for TourOutcome {
         true
     }
 
-    fn print(self, rt: &HostRuntime, file: Option<&str>, json: bool) -> Result<u8, Unprinted> {
+    fn print<'a>(
+        self,
+        rt: &HostRuntime,
+        file: Option<&'a str>,
+        json: bool,
+    ) -> Result<u8, Refusal<'a>> {
         let status = status_of(self.verdict());
         if json {
             print_judged(rt, file, tour_object(self))?;

@@ -2,7 +2,8 @@
 use crate::commands::check::{Checked, FOUND};
 use crate::input::Input;
 use crate::objects::route_object;
-use crate::printed::{Unprinted, print_judged, print_name};
+use crate::printed::{print_judged, print_name};
+use crate::refusal::Refusal;
 use std::alloc::Global;
 use tk_engines::{Fault, route_outcome, route_outcome_of, write_route_verdict};
 use tk_problem::Problem;
@@ -27,7 +28,12 @@ impl Checked for RouteVerdict {
         problem.routing.is_some()
     }
 
-    fn print(self, rt: &HostRuntime, file: Option<&str>, json: bool) -> Result<u8, Unprinted> {
+    fn print<'a>(
+        self,
+        rt: &HostRuntime,
+        file: Option<&'a str>,
+        json: bool,
+    ) -> Result<u8, Refusal<'a>> {
         if json {
             print_judged(rt, file, route_object(self))?;
         } else {
