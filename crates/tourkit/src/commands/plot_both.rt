@@ -33,23 +33,38 @@ pub fn plot_both<'a>(
     second_file: &'a str,
     form: &OutputFormat<'_>,
 ) -> Result<ExitCode, Refusal<'a>> {
-    let placed = placed_in(rt, problem_file)?;
-    let first = draw_one(rt, &placed, problem_file, first_file, form)?;
-    let second = draw_one(rt, &placed, problem_file, second_file, form)?;
-    let status = first.status.max(second.status);
-    if status == 0 {
-        print_both(rt, &first, &second)?;
+    match placed_in(rt, problem_file) {
+        Ok(placed) => draw_both(rt, &placed, problem_file, first_file, second_file, form),
+        Err(refusal) => Err(refusal),
     }
-    Ok(ExitCode::from(status))
 }
 
-/// Reads a problem and its places.
+/// Reads a problem and its places. If standard input is closed, the file gets its number, so it must not stay open
+/// while others are read.
 fn placed_in<'a>(rt: &HostRuntime, file: &'a str) -> Result<PlacedProblem, Refusal<'a>> {
     let input = open(rt, file)?;
     match read_placed_problem(rt.alloc(), &mut FromRead::new(input)) {
         Ok(placed) => Ok(placed),
         Err(fault) => Err(Reason::Text(fault).about(file)),
     }
+}
+
+/// Draws two tours or solutions of a problem that has been read.
+fn draw_both<'a>(
+    rt: &HostRuntime,
+    placed: &PlacedProblem,
+    problem_file: &'a str,
+    first_file: &'a str,
+    second_file: &'a str,
+    form: &OutputFormat<'_>,
+) -> Result<ExitCode, Refusal<'a>> {
+    let first = draw_one(rt, placed, problem_file, first_file, form)?;
+    let second = draw_one(rt, placed, problem_file, second_file, form)?;
+    let status = first.status.max(second.status);
+    if status == 0 {
+        print_both(rt, &first, &second)?;
+    }
+    Ok(ExitCode::from(status))
 }
 
 /// Draws a tour or routes in memory. Reports their fault if they have one.

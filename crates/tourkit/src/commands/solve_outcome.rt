@@ -26,12 +26,6 @@ pub enum Stop {
     NotForType(Named),
 }
 
-impl From<Fault> for Stop {
-    fn from(fault: Fault) -> Stop {
-        Stop::Fault(fault)
-    }
-}
-
 /// The outcome of a search. Each run begins with the initial tour or solution, if there is one.
 ///
 /// # Errors
@@ -43,11 +37,27 @@ pub fn outcome_of(
     initial: Option<Input>,
     watch: &mut SearchWatch<'_>,
 ) -> Result<SearchOutcome, Stop> {
-    let problem = read_problem(alloc, &mut FromRead::new(problem)).map_err(Fault::Problem)?;
-    match task_of(search, &problem)? {
-        Task::Between(settings) => between_routes(alloc, &settings, &problem, initial, watch),
-        Task::Other(settings) => other_search(alloc, &settings, &problem, initial, watch),
-    }
+    let problem = match read_problem(alloc, &mut FromRead::new(problem)) {
+        Ok(problem) => problem,
+        Err(fault) => return Err(Stop::Fault(Fault::Problem(fault))),
+    };
+    outcome_for(alloc, search, &problem, initial, watch)
+}
+
+/// The outcome of a search whose problem has been read.
+fn outcome_for(
+    alloc: Global,
+    search: &Search<'_, '_>,
+    problem: &Problem,
+    initial: Option<Input>,
+    watch: &mut SearchWatch<'_>,
+) -> Result<SearchOutcome, Stop> {
+    let outcome = match task_of(search, problem) {
+        Ok(Task::Between(settings)) => between_routes(alloc, &settings, problem, initial, watch),
+        Ok(Task::Other(settings)) => other_search(alloc, &settings, problem, initial, watch),
+        Err(stop) => return Err(stop),
+    };
+    outcome.map_err(Stop::Fault)
 }
 
 /// What is searched for, and the settings of the search.
@@ -89,12 +99,12 @@ fn other_search(
     problem: &Problem,
     initial: Option<Input>,
     watch: &mut SearchWatch<'_>,
-) -> Result<SearchOutcome, Stop> {
+) -> Result<SearchOutcome, Fault> {
     let initial = match initial {
         Some(tour) => Some(read_tour(alloc, &mut FromRead::new(tour)).map_err(Fault::Tour)?),
         None => None,
     };
-    Ok(search_problem(alloc, settings, problem, &initial, watch)?)
+    search_problem(alloc, settings, problem, &initial, watch)
 }
 
 /// The outcome of a search between routes.
@@ -104,14 +114,14 @@ fn between_routes(
     problem: &Problem,
     initial: Option<Input>,
     watch: &mut SearchWatch<'_>,
-) -> Result<SearchOutcome, Stop> {
+) -> Result<SearchOutcome, Fault> {
     let initial = match initial {
         Some(routes) => {
             Some(read_solution(alloc, &mut FromRead::new(routes)).map_err(Fault::Solution)?)
         }
         None => None,
     };
-    Ok(search_between(alloc, settings, problem, &initial, watch)?)
+    search_between(alloc, settings, problem, &initial, watch)
 }
 
 /// The first option that does not apply to a problem with routing, or to one without.
