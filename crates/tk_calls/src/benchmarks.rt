@@ -10,6 +10,7 @@ mod strips;
 mod times;
 mod tour;
 
+use crate::host::Host;
 use times::Times;
 
 /// A benchmark.
@@ -40,24 +41,23 @@ pub fn benchmark_of(name: &str) -> Option<Benchmark> {
 }
 
 /// Makes the run of a benchmark, and prints its times.
-pub fn run_one(rt: &HostRuntime, benchmark: Benchmark) -> anyhow::Result<()> {
-    run(rt, Times::Reported, benchmark)
+pub fn run_one(host: &Host<'_>, benchmark: Benchmark) {
+    run(host, Times::Reported, benchmark);
 }
 
 /// Makes a small run of each benchmark, whose times are hidden.
-pub fn run_small(rt: &HostRuntime) -> anyhow::Result<()> {
+pub fn run_small(host: &Host<'_>) {
     for (_, benchmark) in &BENCHMARKS {
-        run(rt, Times::Hidden, *benchmark)?;
+        run(host, Times::Hidden, *benchmark);
     }
-    Ok(())
 }
 
 /// Makes the run of a benchmark, if its times are printed, or the small run, if they are hidden.
-fn run(rt: &HostRuntime, times: Times, benchmark: Benchmark) -> anyhow::Result<()> {
+fn run(host: &Host<'_>, times: Times, benchmark: Benchmark) {
     match benchmark {
-        Benchmark::Descent => descent::run(rt, times),
-        Benchmark::Distances => distances::run(rt, times),
-        Benchmark::Near => near::run(rt, times),
-        Benchmark::Tour => tour::run(rt, times),
+        Benchmark::Descent => descent::run(host, times),
+        Benchmark::Distances => distances::run(host, times),
+        Benchmark::Near => near::run(host, times),
+        Benchmark::Tour => tour::run(host, times),
     }
 }

@@ -1,6 +1,6 @@
 //! The command line of the program: its argument, and the calls and runs that it requests.
 use crate::benchmarks::{Benchmark, benchmark_of, run_one, run_small};
-use crate::lines::{mark, tell_number};
+use crate::host::Host;
 use crate::refusals::Stopped;
 use crate::{again, make_calls};
 use std::io;
@@ -19,14 +19,15 @@ enum Request {
 
 /// Reads the arguments of the call, and makes the calls and runs that they request.
 pub fn run_call(rt: &HostRuntime) -> ExitCode {
-    let request = match request_of_call(rt) {
-        Ok(Some(request)) => request,
-        Ok(None) => return refused(rt),
-        Err(stop) => return stopped(rt, &stop.into()),
-    };
-    match run_request(rt, request) {
-        Ok(()) => ExitCode::SUCCESS,
-        Err(error) => stopped(rt, &error),
+    let host = Host::new(rt);
+    let request = request_of_call(&host);
+    if let Some(request) = request {
+        run_request(&host, request);
+    }
+    match host.stopped() {
+        Some(reason) => stopped(rt, reason),
+        None if request.is_none() => refused(rt),
+        None => ExitCode::SUCCESS,
     }
 }
 
@@ -40,9 +41,9 @@ fn words_of(rt: &HostRuntime) -> io::Result<Vec<String>> {
 }
 
 /// The request of the arguments, if they make one. If memory runs out, they are read again.
-fn request_of_call(rt: &HostRuntime) -> Result<Option<Request>, Stopped> {
-    let words = again!(rt, "args", words_of(rt))?;
-    Ok(request_by(&words))
+fn request_of_call(host: &Host<'_>) -> Option<Request> {
+    let words = again!(host, "args", words_of(host.rt))?;
+    request_by(&words)
 }
 
 /// The request of these arguments, the first of which is the name of the program.
@@ -63,22 +64,22 @@ fn request_of(word: &str) -> Option<Request> {
 }
 
 /// Makes the requested calls and runs.
-fn run_request(rt: &HostRuntime, request: Request) -> anyhow::Result<()> {
+fn run_request(host: &Host<'_>, request: Request) {
     match request {
         Request::All => {
-            run_calls(rt, 0)?;
-            mark(rt, "benchmarks")?;
-            run_small(rt)
+            run_calls(host, 0);
+            host.mark("benchmarks");
+            run_small(host);
         }
-        Request::Calls => Ok(run_calls(rt, 1)?),
-        Request::One(benchmark) => run_one(rt, benchmark),
+        Request::Calls => run_calls(host, 1),
+        Request::One(benchmark) => run_one(host, benchmark),
     }
 }
 
 /// Prints the number of arguments, and makes the calls.
-fn run_calls(rt: &HostRuntime, words: u32) -> Result<(), Stopped> {
-    tell_number(rt, "args", &words, "words")?;
-    make_calls(rt)
+fn run_calls(host: &Host<'_>, words: u32) {
+    host.tell_number("args", &words, "words");
+    make_calls(host);
 }
 
 /// Prints the usage.
@@ -88,7 +89,7 @@ fn refused(rt: &HostRuntime) -> ExitCode {
 }
 
 /// Prints why a run stopped.
-fn stopped(rt: &HostRuntime, error: &anyhow::Error) -> ExitCode {
-    let _ = eprintln!(rt; "tk_calls: {error}");
+fn stopped(rt: &HostRuntime, reason: Stopped) -> ExitCode {
+    let _ = eprintln!(rt; "tk_calls: {reason}");
     ExitCode::FAILURE
 }

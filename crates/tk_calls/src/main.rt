@@ -10,10 +10,11 @@
 
 mod benchmarks;
 mod call;
+mod host;
 mod improving;
 mod instances;
-mod lines;
 mod lists;
+mod problems;
 mod readers;
 mod refusals;
 mod searches;
@@ -22,7 +23,7 @@ mod surface;
 mod tours;
 mod turns;
 
-use crate::refusals::Stopped;
+use crate::host::Host;
 use std::process::ExitCode;
 
 fn main(rt: HostRuntime) -> ExitCode {
@@ -30,12 +31,10 @@ fn main(rt: HostRuntime) -> ExitCode {
 }
 
 /// Makes all calls.
-fn make_calls(rt: &HostRuntime) -> Result<(), Stopped> {
-    readers::make_calls(rt)?;
-    tours::make_calls(rt)?;
-    lists::make_calls(rt)?;
-    starts::make_calls(rt)?;
-    improving::make_calls(rt)?;
-    turns::make_calls(rt)?;
-    searches::make_calls(rt)
+fn make_calls(host: &Host<'_>) {
+    readers::make_calls(host);
+    tours::make_calls(host);
+    problems::make_calls(host);
+    turns::make_calls(host);
+    searches::make_calls(host);
 }

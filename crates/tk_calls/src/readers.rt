@@ -1,10 +1,9 @@
 //! The readers of texts.
-use crate::again;
+use crate::host::Host;
 use crate::instances::{MAP, PARAMETERS, SOLUTION, SQUARE, TOUR};
-use crate::lines::{tell, tell_number};
-use crate::refusals::Stopped;
+use crate::{again, call};
 use std::alloc::Global;
-use tk_engines::{Params, read_params};
+use tk_engines::{ParamFault, Params, read_params};
 use tk_text::{
     FromRead, Problem, SolText, TextFault, read_placed_problem, read_problem, read_solution,
     read_tour,
@@ -16,76 +15,83 @@ fn read(alloc: Global, text: &[u8]) -> Result<Problem, TextFault> {
 }
 
 /// A problem, whose size is printed.
-pub fn problem_of(rt: &HostRuntime, text: &[u8]) -> Result<Problem, Stopped> {
-    let alloc = rt.alloc();
-    let problem = again!(rt, "read_problem", read(alloc, text))?;
-    tell_number(rt, "read_problem", &problem.n, "nodes")?;
-    Ok(problem)
+pub fn problem_of(host: &Host<'_>, text: &[u8]) -> Option<Problem> {
+    let problem = again!(host, "read_problem", read(host.alloc, text));
+    if let Some(problem) = &problem {
+        host.tell_number("read_problem", &problem.n, "nodes");
+    }
+    problem
+}
+
+/// Reads a problem with the places of its cities, and returns the number of its nodes.
+fn read_placed(alloc: Global) -> Result<u32, TextFault> {
+    let placed = read_placed_problem(alloc, &mut FromRead::new(MAP))?;
+    Ok(placed.problem.n)
 }
 
 /// Reads a problem with the places of its cities.
-fn call_for_places(rt: &HostRuntime) -> Result<(), Stopped> {
-    let alloc = rt.alloc();
-    let placed = again!(
-        rt,
-        "read_placed_problem",
-        read_placed_problem(alloc, &mut FromRead::new(MAP))
-    )?;
-    tell_number(rt, "read_placed_problem", &placed.problem.n, "nodes")
+fn call_for_places(host: &Host<'_>) {
+    if let Some(nodes) = again!(host, "read_placed_problem", read_placed(host.alloc)) {
+        host.tell_number("read_placed_problem", &nodes, "nodes");
+    }
+}
+
+/// Reads a tour, and returns its cities.
+fn read_cities(alloc: Global) -> Result<Vec<u32>, TextFault> {
+    let tour = read_tour(alloc, &mut FromRead::new(TOUR))?;
+    Ok(tour.cities)
 }
 
 /// Reads a tour.
-fn call_for_tour(rt: &HostRuntime) -> Result<(), Stopped> {
-    let alloc = rt.alloc();
-    let tour = again!(rt, "read_tour", read_tour(alloc, &mut FromRead::new(TOUR)))?;
-    tell(rt, "read_tour", &tour.cities)
-}
-
-/// Prints the contents of a solution.
-fn show_solution(rt: &HostRuntime, solution: &SolText) -> Result<(), Stopped> {
-    let SolText { routes, cost } = solution;
-    println!(rt; "read_solution: {routes:?}, cost {cost}")?;
-    Ok(())
+fn call_for_tour(host: &Host<'_>) {
+    call!(host, "read_tour", read_cities(host.alloc));
 }
 
 /// Reads a solution.
-fn call_for_solution(rt: &HostRuntime) -> Result<(), Stopped> {
-    let alloc = rt.alloc();
-    let solution = again!(
-        rt,
-        "read_solution",
-        read_solution(alloc, &mut FromRead::new(SOLUTION))
-    )?;
-    show_solution(rt, &solution)
+fn read_routes(alloc: Global) -> Result<SolText, TextFault> {
+    read_solution(alloc, &mut FromRead::new(SOLUTION))
+}
+
+/// Prints the contents of a solution.
+fn show_solution(host: &Host<'_>, solution: &SolText) {
+    let SolText { routes, cost } = solution;
+    println!(host; "read_solution: {routes:?}, cost {cost}");
+}
+
+/// Reads and prints a solution.
+fn call_for_solution(host: &Host<'_>) {
+    if let Some(solution) = again!(host, "read_solution", read_routes(host.alloc)) {
+        show_solution(host, &solution);
+    }
+}
+
+/// Reads parameters.
+fn read_keys(alloc: Global) -> Result<Params, ParamFault> {
+    read_params(alloc, &mut FromRead::new(PARAMETERS))
 }
 
 /// Prints some values of parameters.
-fn show_params(rt: &HostRuntime, params: &Params) -> Result<(), Stopped> {
+fn show_params(host: &Host<'_>, params: &Params) {
     let (file, runs, ignored) = (
         params.problem_file(),
         params.search().runs,
         params.ignored(),
     );
-    println!(rt; "read_params: {file}, {runs} runs, {ignored:?} ignored")?;
-    Ok(())
+    println!(host; "read_params: {file}, {runs} runs, {ignored:?} ignored");
 }
 
-/// Reads parameters.
-fn call_for_params(rt: &HostRuntime) -> Result<(), Stopped> {
-    let alloc = rt.alloc();
-    let params = again!(
-        rt,
-        "read_params",
-        read_params(alloc, &mut FromRead::new(PARAMETERS))
-    )?;
-    show_params(rt, &params)
+/// Reads and prints parameters.
+fn call_for_params(host: &Host<'_>) {
+    if let Some(params) = again!(host, "read_params", read_keys(host.alloc)) {
+        show_params(host, &params);
+    }
 }
 
 /// Reads a text of each format.
-pub fn make_calls(rt: &HostRuntime) -> Result<(), Stopped> {
-    let _ = problem_of(rt, SQUARE)?;
-    call_for_places(rt)?;
-    call_for_tour(rt)?;
-    call_for_solution(rt)?;
-    call_for_params(rt)
+pub fn make_calls(host: &Host<'_>) {
+    let _ = problem_of(host, SQUARE);
+    call_for_places(host);
+    call_for_tour(host);
+    call_for_solution(host);
+    call_for_params(host);
 }

@@ -1,15 +1,12 @@
 //! Calls that are made again if memory runs out.
-ghost use Rattle.std.specs.Prelude.{◌≡◌, IfOk, Ok};
-
 use std::alloc::AllocError;
-use std::error::Error;
 use std::{fmt, io};
 use tk_engines::{ParamFault, ParamKind};
 use tk_text::{TextFault, TextKind};
 use tk_tour::TourFault;
 
 /// Why a call has no value. It is made again if memory ran out.
-#[derive(Clone, Copy, Debug)]
+#[derive(Clone, Copy)]
 pub enum Stopped {
     /// Memory ran out.
     NoMemory,
@@ -36,8 +33,6 @@ impl fmt::Display for Stopped {
         })
     }
 }
-
-impl Error for Stopped {}
 
 impl From<AllocError> for Stopped {
     fn from(_: AllocError) -> Stopped {
@@ -69,39 +64,17 @@ impl From<io::Error> for Stopped {
     }
 }
 
-/// Prints that memory ran out in the call with this name. Any other fault ends the calls.
-pub fn tell_refused<E: Into<Stopped>>(
-    rt: &HostRuntime,
-    name: &str,
-    fault: E,
-) -> Result<(), Stopped> {
-    match fault.into() {
-        Stopped::NoMemory => println!(rt; "{name}: out of memory")?,
-        Stopped::Otherwise => return Err(Stopped::Otherwise),
-    }
-    Ok(())
-}
-
-/// The value of a call, or why it has none.
-pub fn or_stopped<V, E: Into<Stopped>>(answer: Result<V, E>) -> Result<V, Stopped>
-    ensures { IfOk result (λ value. answer ≡ Ok value) }
-{
-    match answer {
-        Ok(value) => Ok(value),
-        Err(fault) => Err(fault.into()),
-    }
-}
-
-/// Makes a call. If memory runs out, prints this under its name, and makes the call again.
+/// Makes a call. If memory runs out, prints this under its name, and makes the call again. The value is `None` if the
+/// call fails again, or for another reason.
 #[macro_export]
 macro_rules! again {
-    ($rt:expr, $name:literal, $call:expr) => {
+    ($host:expr, $name:literal, $call:expr) => {
         match $call {
-            Ok(value) => Ok(value),
-            Err(fault) => match $crate::refusals::tell_refused($rt, $name, fault) {
-                Ok(()) => $crate::refusals::or_stopped($call),
-                Err(stopped) => Err(stopped),
-            },
+            Ok(value) => Some(value),
+            Err(fault) => {
+                $host.tell_refused($name, fault);
+                $host.value_of($call)
+            }
         }
     };
 }
@@ -109,7 +82,7 @@ macro_rules! again {
 /// Makes a call as `again` does, and prints its value under its name.
 #[macro_export]
 macro_rules! call {
-    ($rt:expr, $name:literal, $call:expr) => {
-        $crate::lines::tell_answer($rt, $name, $crate::again!($rt, $name, $call))
+    ($host:expr, $name:literal, $call:expr) => {
+        $host.tell_answer($name, $crate::again!($host, $name, $call))
     };
 }

@@ -1,10 +1,9 @@
 //! Searches. They allocate memory before the first trial, and none during trials.
 use crate::again;
+use crate::host::Host;
 use crate::instances::{FIVE, ROW, SQUARE};
-use crate::lines::mark;
 use crate::lists::near_of;
 use crate::readers::problem_of;
-use crate::refusals::Stopped;
 use rand_core::SeedableRng;
 use rand_pcg::Pcg32;
 use std::alloc::Global;
@@ -66,10 +65,9 @@ fn begin<'a, M: Metric>(
 }
 
 /// Prints the counters of a search, and its best tour.
-fn show<M: Metric>(rt: &HostRuntime, name: &str, search: &Search<M>) -> Result<(), Stopped> {
+fn show<M: Metric>(host: &Host<'_>, name: &str, search: &Search<M>) {
     let (totals, best) = (search.totals(), search.best());
-    println!(rt; "{name}: {totals:?}, {best:?}")?;
-    Ok(())
+    println!(host; "{name}: {totals:?}, {best:?}");
 }
 
 /// Makes this many trials.
@@ -81,48 +79,48 @@ fn make_trials<M: Metric>(search: &mut Search<M>, count: u32) {
 }
 
 /// Makes the trials of a search that is built, and prints its state before and after them.
-fn search<M: Metric>(rt: &HostRuntime, search: &mut Search<M>, trials: u32) -> Result<(), Stopped> {
-    show(rt, "Search::new", search)?;
-    mark(rt, "built")?;
+fn search<M: Metric>(host: &Host<'_>, search: &mut Search<M>, trials: u32) {
+    show(host, "Search::new", search);
+    host.mark("built");
     make_trials(search, trials);
-    show(rt, "trial", search)?;
-    mark(rt, "done")
+    show(host, "trial", search);
+    host.mark("done");
 }
 
 /// The search of a task, before its first trial.
 fn begun<'a, M: Metric>(
-    rt: &HostRuntime,
+    host: &Host<'_>,
     metric: &'a M,
     near: &'a Near,
     task: &Task<'_>,
-) -> Result<Search<'a, M>, Stopped> {
-    let alloc = rt.alloc();
-    again!(rt, "Search::new", begin(alloc, metric, near, task.start))
+) -> Option<Search<'a, M>> {
+    again!(
+        host,
+        "Search::new",
+        begin(host.alloc, metric, near, task.start)
+    )
 }
 
 /// Makes a search, and then its trials.
-fn search_from<M: Metric>(
-    rt: &HostRuntime,
-    metric: &M,
-    near: &Near,
-    task: &Task<'_>,
-) -> Result<(), Stopped> {
-    let mut begun = begun(rt, metric, near, task)?;
-    search(rt, &mut begun, task.trials)
+fn search_from<M: Metric>(host: &Host<'_>, metric: &M, near: &Near, task: &Task<'_>) {
+    if let Some(mut begun) = begun(host, metric, near, task) {
+        search(host, &mut begun, task.trials);
+    }
 }
 
 /// Searches among the cities of a task's problem.
-fn search_in(rt: &HostRuntime, problem: &Problem, task: &Task<'_>) -> Result<(), Stopped> {
+fn search_in(host: &Host<'_>, problem: &Problem, task: &Task<'_>) {
     let table = Table::of(problem);
-    let near = near_of(rt, &table, task.candidates)?;
-    search_from(rt, &table, &near, task)
+    if let Some(near) = near_of(host, &table, task.candidates) {
+        search_from(host, &table, &near, task);
+    }
 }
 
 /// Makes the searches.
-pub fn make_calls(rt: &HostRuntime) -> Result<(), Stopped> {
+pub fn make_calls(host: &Host<'_>) {
     for task in &TASKS {
-        let problem = problem_of(rt, task.problem)?;
-        search_in(rt, &problem, task)?;
+        if let Some(problem) = problem_of(host, task.problem) {
+            search_in(host, &problem, task);
+        }
     }
-    Ok(())
 }

@@ -4,10 +4,9 @@
 //! distances, and the picoseconds of one distance.
 use crate::benchmarks::draws::advance;
 use crate::benchmarks::lines::{Value, print_line};
-use crate::benchmarks::times::{Time, Times};
+use crate::benchmarks::times::{Stopwatch, Time, Times};
+use crate::host::Host;
 use std::alloc::{AllocError, Global};
-use std::io;
-use std::time::Instant;
 use tk_metric::{Metric, Planes};
 use tk_text::{CITY_LIMIT, COORDINATE_LIMIT, PlaneKind, Point, Points, SCALE};
 
@@ -79,7 +78,7 @@ static TASKS: [Task<'static>; 8] = [
 ];
 
 /// Makes the run, or the small one if its times are hidden.
-pub fn run(rt: &HostRuntime, times: Times) -> anyhow::Result<()> {
+pub fn run(host: &Host<'_>, times: Times) {
     let (spans, sizes): (&[i64], Sizes) = match times {
         Times::Reported => (
             &[10, 1_000, 1_000_000, 100_000_000, 1_000_000_000],
@@ -97,79 +96,66 @@ pub fn run(rt: &HostRuntime, times: Times) -> anyhow::Result<()> {
         ),
     };
     for span in spans {
-        measure_all(rt, times, *span, sizes)?;
+        measure_all(host, times, *span, sizes);
     }
-    Ok(())
 }
 
 /// Measures all tasks, at one span.
-fn measure_all(rt: &HostRuntime, times: Times, span: i64, sizes: Sizes) -> io::Result<()> {
+fn measure_all(host: &Host<'_>, times: Times, span: i64, sizes: Sizes) {
     for task in &TASKS {
-        measure(rt, times, *task, span, sizes)?;
+        measure(host, times, *task, span, sizes);
     }
-    Ok(())
 }
 
 /// Measures the sum of the distances of a task, at one span.
-fn measure(
-    rt: &HostRuntime,
-    times: Times,
-    task: Task<'_>,
-    span: i64,
-    sizes: Sizes,
-) -> io::Result<()> {
-    let points = spread(rt.alloc(), sizes.places, span, task.unit)?;
-    if points.len() > CITY_LIMIT as usize {
-        return Ok(());
+fn measure(host: &Host<'_>, times: Times, task: Task<'_>, span: i64, sizes: Sizes) {
+    let Some(points) = host.value_of(spread(host.alloc, sizes.places, span, task.unit)) else {
+        return;
+    };
+    if points.len() <= CITY_LIMIT as usize {
+        let planes = Planes::new(task.kind, &points);
+        time_task(host, times, task, span, sizes, &planes);
     }
-    time_task(
-        rt,
-        times,
-        task,
-        span,
-        sizes,
-        &Planes::new(task.kind, &points),
-    )
 }
 
 /// Computes and times the sum.
 fn time_task<M: Metric>(
-    rt: &HostRuntime,
+    host: &Host<'_>,
     times: Times,
     task: Task<'_>,
     span: i64,
     sizes: Sizes,
     metric: &M,
-) -> io::Result<()> {
-    let (sum, least) = time_sum(rt, metric, sizes.steps)?;
+) {
+    let (sum, least) = time_sum(host, metric, sizes.steps);
     let took = times.tell(picoseconds_of_one(least, sizes));
-    tell(rt, task.name, span, sum, took)
+    tell(host, task.name, span, sum, took);
 }
 
 /// Prints the line of a sum.
-fn tell(rt: &HostRuntime, name: &str, span: i64, sum: u64, took: Time) -> io::Result<()> {
+fn tell(host: &Host<'_>, name: &str, span: i64, sum: u64, took: Time) {
     print_line(
-        rt,
+        host,
         &[
             Value::Word(name),
             Value::Number(span.unsigned_abs() as u128),
             Value::Number(sum as u128),
             Value::Time(took),
         ],
-    )
+    );
 }
 
 /// The sum of the distances of points that are fewer than `steps` positions apart, and the shortest time, in
 /// nanoseconds.
-fn time_sum<M: Metric>(rt: &HostRuntime, metric: &M, steps: u32) -> io::Result<(u64, u128)> {
+fn time_sum<M: Metric>(host: &Host<'_>, metric: &M, steps: u32) -> (u64, u128) {
     let mut least: u128 = u128::MAX;
     let mut sum = 0;
     for _ in 0..ROUNDS {
-        let begin = Instant::now(rt)?;
+        let watch = Stopwatch::start(host);
         sum = sum_of(metric, steps);
-        least = least.min(begin.elapsed(rt)?.as_nanos());
+        least = least.min(watch.elapsed(host).as_nanos());
     }
-    Ok((sum, least))
+    (sum, least)
 }
 
 /// The picoseconds of one distance, given the nanoseconds of all.

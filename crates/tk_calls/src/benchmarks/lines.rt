@@ -1,6 +1,7 @@
 //! The lines of runs.
 use crate::benchmarks::times::Time;
-use std::{fmt, io};
+use crate::host::Host;
+use std::fmt;
 
 /// A value of a line.
 #[derive(Clone, Copy)]
@@ -21,11 +22,11 @@ impl fmt::Display for Value<'_> {
 }
 
 /// Prints a line of these values, with a blank between them.
-pub fn print_line(rt: &HostRuntime, values: &[Value<'_>]) -> io::Result<()> {
+pub fn print_line(host: &Host<'_>, values: &[Value<'_>]) {
     let mut blank = "";
     for value in values {
-        print!(rt; "{blank}{value}")?;
+        print!(host; "{blank}{value}");
         blank = " ";
     }
-    println!(rt; "")
+    host.println("");
 }

@@ -7,8 +7,8 @@ ghost use Rattle.std.specs.Prelude.{◌≤◌};
 use crate::benchmarks::cities::{digest, digest_after};
 use crate::benchmarks::lines::{Value, print_line};
 use crate::benchmarks::places::{Input, sample};
-use crate::benchmarks::times::{Time, Times};
-use std::time::Instant;
+use crate::benchmarks::times::{Stopwatch, Time, Times};
+use crate::host::Host;
 use tk_build::nearest_tour;
 use tk_metric::{Metric, Near, Planes, Table, near_lists};
 use tk_text::{CANDIDATE_LIMIT, CITY_LIMIT, PlaneKind};
@@ -34,10 +34,10 @@ static INPUTS: [(&str, Input); 8] = [
 ];
 
 /// Makes the run, or the small one if its times are hidden.
-pub fn run(rt: &HostRuntime, times: Times) -> anyhow::Result<()> {
+pub fn run(host: &Host<'_>, times: Times) {
     match times {
         Times::Reported => measure_all(
-            rt,
+            host,
             times,
             Sizes {
                 cities: 100_000,
@@ -46,7 +46,7 @@ pub fn run(rt: &HostRuntime, times: Times) -> anyhow::Result<()> {
             },
         ),
         Times::Hidden => measure_all(
-            rt,
+            host,
             times,
             Sizes {
                 cities: 100,
@@ -58,74 +58,58 @@ pub fn run(rt: &HostRuntime, times: Times) -> anyhow::Result<()> {
 }
 
 /// Measures each kind of input.
-fn measure_all(rt: &HostRuntime, times: Times, sizes: Sizes) -> anyhow::Result<()>
+fn measure_all(host: &Host<'_>, times: Times, sizes: Sizes)
     requires cities { sizes.cities ≤ CITY_LIMIT }
     requires short { (1 ≤ sizes.short) × (sizes.short ≤ CANDIDATE_LIMIT) }
     requires long { (1 ≤ sizes.long) × (sizes.long ≤ CANDIDATE_LIMIT) }
 {
     for (name, input) in &INPUTS {
-        measure(rt, times, name, *input, sizes)?;
+        measure(host, times, name, *input, sizes);
     }
-    Ok(())
 }
 
 /// Measures the near lists of both lengths and the tour, on one kind of input.
-fn measure(
-    rt: &HostRuntime,
-    times: Times,
-    name: &str,
-    input: Input,
-    sizes: Sizes,
-) -> anyhow::Result<()>
+fn measure(host: &Host<'_>, times: Times, name: &str, input: Input, sizes: Sizes)
     requires cities { sizes.cities ≤ CITY_LIMIT }
     requires short { (1 ≤ sizes.short) × (sizes.short ≤ CANDIDATE_LIMIT) }
     requires long { (1 ≤ sizes.long) × (sizes.long ≤ CANDIDATE_LIMIT) }
 {
-    let points = sample(rt.alloc(), sizes.cities, input)?;
+    let Some(points) = host.value_of(sample(host.alloc, sizes.cities, input)) else {
+        return;
+    };
     let table = Table::Planes(Planes::new(PlaneKind::Euc2d, &points));
-    time_each(rt, times, name, &table, sizes)
+    time_each(host, times, name, &table, sizes);
 }
 
 /// Makes and times the near lists of both lengths and the tour.
-fn time_each(
-    rt: &HostRuntime,
-    times: Times,
-    name: &str,
-    table: &Table<'_>,
-    sizes: Sizes,
-) -> anyhow::Result<()>
+fn time_each(host: &Host<'_>, times: Times, name: &str, table: &Table<'_>, sizes: Sizes)
     requires short { (1 ≤ sizes.short) × (sizes.short ≤ CANDIDATE_LIMIT) }
     requires long { (1 ≤ sizes.long) × (sizes.long ≤ CANDIDATE_LIMIT) }
 {
-    time_lists(rt, times, name, table, sizes.short)?;
-    time_lists(rt, times, name, table, sizes.long)?;
-    time_tour(rt, times, name, table)
+    time_lists(host, times, name, table, sizes.short);
+    time_lists(host, times, name, table, sizes.long);
+    time_tour(host, times, name, table);
 }
 
 /// Makes and times near lists of length k.
-fn time_lists(
-    rt: &HostRuntime,
-    times: Times,
-    name: &str,
-    table: &Table<'_>,
-    k: u32,
-) -> anyhow::Result<()>
+fn time_lists(host: &Host<'_>, times: Times, name: &str, table: &Table<'_>, k: u32)
     requires { (1 ≤ k) × (k ≤ CANDIDATE_LIMIT) }
 {
     if k >= table.size() {
-        return Ok(());
+        return;
     }
-    let begin = Instant::now(rt)?;
-    let near = near_lists(rt.alloc(), table, k)?;
-    let took = times.micros_since(rt, &begin)?;
-    tell_lists(rt, name, took, &near)
+    let watch = Stopwatch::start(host);
+    let near = near_lists(host.alloc, table, k);
+    let took = times.tell(watch.elapsed(host).as_micros());
+    if let Some(near) = host.value_of(near) {
+        tell_lists(host, name, took, &near);
+    }
 }
 
 /// Prints the line of near lists.
-fn tell_lists(rt: &HostRuntime, name: &str, took: Time, near: &Near) -> anyhow::Result<()> {
+fn tell_lists(host: &Host<'_>, name: &str, took: Time, near: &Near) {
     let (k, digest) = (near.width(), digest_of_lists(near));
-    println!(rt; "{name} near-{k} {took} {digest}")?;
-    Ok(())
+    println!(host; "{name} near-{k} {took} {digest}");
 }
 
 /// A digest of the cities of all near lists.
@@ -138,26 +122,27 @@ fn digest_of_lists(near: &Near) -> u64 {
 }
 
 /// Makes and times the tour from city 1.
-fn time_tour(rt: &HostRuntime, times: Times, name: &str, table: &Table<'_>) -> anyhow::Result<()> {
+fn time_tour(host: &Host<'_>, times: Times, name: &str, table: &Table<'_>) {
     if table.size() == 0 {
-        return Ok(());
+        return;
     }
-    let begin = Instant::now(rt)?;
-    let cities = nearest_tour(rt.alloc(), table, 1)?;
-    let took = times.micros_since(rt, &begin)?;
-    tell_tour(rt, name, took, &cities)
+    let watch = Stopwatch::start(host);
+    let cities = nearest_tour(host.alloc, table, 1);
+    let took = times.tell(watch.elapsed(host).as_micros());
+    if let Some(cities) = host.value_of(cities) {
+        tell_tour(host, name, took, &cities);
+    }
 }
 
 /// Prints the line of the tour.
-fn tell_tour(rt: &HostRuntime, name: &str, took: Time, cities: &[u32]) -> anyhow::Result<()> {
+fn tell_tour(host: &Host<'_>, name: &str, took: Time, cities: &[u32]) {
     print_line(
-        rt,
+        host,
         &[
             Value::Word(name),
             Value::Word("start"),
             Value::Time(took),
             Value::Number(digest(cities) as u128),
         ],
-    )?;
-    Ok(())
+    );
 }

@@ -1,6 +1,7 @@
 //! Times, and whether the lines of a run contain them.
-use std::time::Instant;
-use std::{fmt, io};
+use crate::host::Host;
+use std::fmt;
+use std::time::{Duration, Instant};
 
 /// Whether the lines of a run contain its times. Those of a stored run do not, since no two runs take the same time.
 #[derive(Clone, Copy)]
@@ -21,16 +22,6 @@ impl Times {
             Times::Hidden => Time(None),
         }
     }
-
-    /// The nanoseconds since an instant.
-    pub fn nanos_since(self, rt: &HostRuntime, begin: &Instant) -> io::Result<Time> {
-        Ok(self.tell(begin.elapsed(rt)?.as_nanos()))
-    }
-
-    /// The microseconds since an instant.
-    pub fn micros_since(self, rt: &HostRuntime, begin: &Instant) -> io::Result<Time> {
-        Ok(self.tell(begin.elapsed(rt)?.as_micros()))
-    }
 }
 
 impl fmt::Display for Time {
@@ -38,6 +29,32 @@ impl fmt::Display for Time {
         match self.0 {
             Some(time) => write!(f, "{time}"),
             None => f.write_str("-"),
+        }
+    }
+}
+
+/// Measures a time. If the clock cannot be read, the host notes it, and the time is 0.
+#[derive(Drop)]
+pub struct Stopwatch {
+    begin: Option<Instant>,
+}
+
+impl Stopwatch {
+    /// Begins now.
+    pub fn start(host: &Host<'_>) -> Stopwatch {
+        Stopwatch {
+            begin: host.value_of(Instant::now(host.rt)),
+        }
+    }
+
+    /// The time since the start.
+    pub fn elapsed(&self, host: &Host<'_>) -> Duration {
+        let Some(begin) = &self.begin else {
+            return Duration::ZERO;
+        };
+        match host.value_of(begin.elapsed(host.rt)) {
+            Some(elapsed) => elapsed,
+            None => Duration::ZERO,
         }
     }
 }

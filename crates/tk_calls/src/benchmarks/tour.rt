@@ -6,48 +6,45 @@ ghost use Rattle.std.specs.Prelude.{◌<◌, ◌≤◌};
 use crate::benchmarks::cities::first_cities;
 use crate::benchmarks::draws::draw_below;
 use crate::benchmarks::lines::{Value, print_line};
-use crate::benchmarks::times::Times;
-use std::time::Instant;
+use crate::benchmarks::times::{Stopwatch, Times};
+use crate::host::Host;
 use tk_tour::{ArrayTour, TourStore};
 
 /// Makes the run, or the small one if its times are hidden.
-pub fn run(rt: &HostRuntime, times: Times) -> anyhow::Result<()> {
+pub fn run(host: &Host<'_>, times: Times) {
     match times {
         Times::Reported => {
-            measure(rt, times, 1_000, 400_000)?;
-            measure(rt, times, 100_000, 4_000)
+            measure(host, times, 1_000, 400_000);
+            measure(host, times, 100_000, 4_000);
         }
-        Times::Hidden => measure(rt, times, 100, 1_000),
+        Times::Hidden => measure(host, times, 100, 1_000),
     }
 }
 
 /// Measures this many flips of a tour of n cities.
-fn measure(rt: &HostRuntime, times: Times, n: u32, flips: u32) -> anyhow::Result<()> {
-    let cities = first_cities(rt.alloc(), n)?;
-    let mut tour = ArrayTour::from_list(rt.alloc(), &cities)?;
-    time_flips(rt, times, &mut tour, flips)
+fn measure(host: &Host<'_>, times: Times, n: u32, flips: u32) {
+    let Some(cities) = host.value_of(first_cities(host.alloc, n)) else {
+        return;
+    };
+    if let Some(mut tour) = host.value_of(ArrayTour::from_list(host.alloc, &cities)) {
+        time_flips(host, times, &mut tour, flips);
+    }
 }
 
 /// Makes and times this many flips.
-fn time_flips(
-    rt: &HostRuntime,
-    times: Times,
-    tour: &mut ArrayTour,
-    flips: u32,
-) -> anyhow::Result<()> {
-    let begin = Instant::now(rt)?;
+fn time_flips(host: &Host<'_>, times: Times, tour: &mut ArrayTour, flips: u32) {
+    let watch = Stopwatch::start(host);
     let after = flip_often(tour, flips);
-    let took = times.nanos_since(rt, &begin)?;
+    let took = times.tell(watch.elapsed(host).as_nanos());
     print_line(
-        rt,
+        host,
         &[
             Value::Number(tour.size() as u128),
             Value::Number(tour.swaps() as u128),
             Value::Time(took),
             Value::Number(after as u128),
         ],
-    )?;
-    Ok(())
+    );
 }
 
 /// A random city from 1 to n.
