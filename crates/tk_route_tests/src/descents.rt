@@ -10,7 +10,9 @@ ghost use Rattle.tk_routes.specs.Instance.{customer_count};
 ghost use Rattle.tk_routes.specs.Routes.{AreRoutes};
 ghost use Rattle.tk_tour.specs.Tour.{IsTour, tour_length};
 
-use crate::given::{TWO_SIDES, claim, cvrp_of, expect, expect_back, expect_valid, problem_of};
+use crate::given::{
+    TWO_SIDES, claim, cvrp_of, expect, expect_back, expect_valid, loaded_ring, problem_of,
+};
 use std::alloc::Global;
 use std::process::Abort;
 use tk_descent::{Probe, Report, Waking};
@@ -19,7 +21,7 @@ use tk_near::near_scan;
 use tk_rings::{Capacity, LoadedRing, descend_ring, ring_demands, ring_nodes, ring_of};
 use tk_routes::Cvrp;
 use tk_text::{Problem, SolText};
-use tk_tour::{ArrayTour, UndoStore, length};
+use tk_tour::{UndoStore, length};
 
 /// Two customers on one side of the depot, with a capacity of 2.
 const ONE_SIDE: &[u8] =
@@ -171,15 +173,10 @@ fn expect_descent<M: Metric>(
         × (vehicles.now.demands.now ≡ demands_of (instance_of cvrp.now)) }
     requires fits { IsFitting vehicles.now.capacity vehicles.now.demands.now ring.now }
 {
-    let tour = ArrayTour::from_list(alloc, ring).expect(rt, "a ring");
     let before = length_of(metric, ring);
-    let mut loaded = LoadedRing::new(alloc, tour, SLOTS, vehicles.demands).expect(
-        rt,
-        "memory for a ring",
-    );
+    let mut loaded = loaded_ring(rt, alloc, ring, SLOTS, vehicles.demands);
     let report = descend_awake(rt, alloc, metric, vehicles, &mut loaded, before);
-    expect(rt, report.before == row.costs[0]);
-    expect(rt, report.after == row.costs[1]);
+    expect(rt, [report.before, report.after] == row.costs);
     expect(rt, report.moves == row.moves);
     expect_back(rt, alloc, cvrp, loaded.tour().order(), row.end);
 }

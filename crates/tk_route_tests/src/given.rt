@@ -2,17 +2,20 @@
 ghost use Rattle.std.specs.Prelude.{◌≡◌, ◌<◌, true, IfOk, length};
 ghost use Rattle.tk_lists.specs.Solution.{lists_of};
 ghost use Rattle.tk_rings.specs.Capacities.{IsFitting};
+ghost use Rattle.tk_rings.specs.LoadedRings.{cities_in, demands_in};
 ghost use Rattle.tk_rings.specs.RingRoutes.{demands_of};
 ghost use Rattle.tk_routes.specs.Cvrps.{instance_of};
 ghost use Rattle.tk_routes.specs.Instance.{customer_count};
 ghost use Rattle.tk_routes.specs.Routes.{AreRoutes};
+ghost use Rattle.tk_tour.specs.ArrayTours.{order_of};
 ghost use Rattle.tk_tour.specs.Tour.{IsTour};
 
 use std::alloc::{AllocError, Global};
 use std::process::Abort;
-use tk_rings::routes_of;
+use tk_rings::{LoadedRing, routes_of};
 use tk_routes::{Cvrp, RouteVerdict, check_routes};
 use tk_text::{FromRead, Problem, SolText, read_problem};
+use tk_tour::ArrayTour;
 
 /// Checks that a condition is true. The proof of a call is much shorter than that of an `assert!`.
 pub fn expect(rt: &impl Abort, is: bool)
@@ -39,6 +42,28 @@ pub const TWO_SIDES: &[u8] =
 /// Reads a problem text.
 pub fn problem_of(rt: &impl Abort, alloc: Global, text: &[u8]) -> Problem {
     read_problem(alloc, &mut FromRead::new(text)).expect(rt, "a problem")
+}
+
+/// A ring in the order of the list.
+pub fn ring_of(rt: &impl Abort, alloc: Global, elements: &[u32]) -> ArrayTour
+    ensures { order_of result ≡ elements.now }
+{
+    ArrayTour::from_list(alloc, elements).expect(rt, "a ring")
+}
+
+/// A ring in the order of the list, with the demands of its customers, that can undo this many flips.
+pub fn loaded_ring<'a>(
+    rt: &impl Abort,
+    alloc: Global,
+    elements: &[u32],
+    slots: u32,
+    demands: &'a [u32],
+) -> LoadedRing<'a, ArrayTour>
+    ensures order { cities_in result ≡ elements.now }
+    ensures demands { demands_in result ≡ demands.entry.now }
+{
+    let ring = ring_of(rt, alloc, elements);
+    LoadedRing::new(alloc, ring, slots, demands).expect(rt, "memory for a ring")
 }
 
 /// The CVRP of a problem.

@@ -4,8 +4,8 @@ ghost use Rattle.tk_rings.specs.Capacities.{IsFitting};
 ghost use Rattle.tk_rings.specs.LoadedRings.{cities_in, demands_in};
 ghost use Rattle.tk_ring_search.specs.Kicks.{IsKick};
 
-use crate::given::{expect, expect_list};
-use crate::line::{DEMANDS, ring_of};
+use crate::given::{expect, expect_list, loaded_ring};
+use crate::line::DEMANDS;
 use rand_core::SeedableRng;
 use rand_pcg::Pcg32;
 use std::alloc::Global;
@@ -74,8 +74,7 @@ fn two_routes(rt: &impl Abort, alloc: Global) -> LoadedRing<'static, ArrayTour>
     ensures demands { demands_in result ≡ DEMANDS }
     ensures fits { IsFitting 3 DEMANDS (cities_in result) }
 {
-    let ring = ring_of(rt, alloc, &[7, 1, 2, 3, 8, 4, 5, 6, 9]);
-    LoadedRing::new(alloc, ring, 0, &DEMANDS).expect(rt, "memory for a ring")
+    loaded_ring(rt, alloc, &[7, 1, 2, 3, 8, 4, 5, 6, 9], 0, &DEMANDS)
 }
 
 // A kick of nine elements.

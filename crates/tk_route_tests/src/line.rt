@@ -1,12 +1,9 @@
 //! Customers on a line, at the distances 1, 2, .. from the depot, each with a demand of 1.
 ghost use Rattle.std.specs.Prelude.{◌≡◌};
-ghost use Rattle.tk_tour.specs.ArrayTours.{order_of};
 
 use crate::given::expect;
-use std::alloc::Global;
 use std::process::Abort;
 use tk_distance::Triangle;
-use tk_tour::ArrayTour;
 
 /// The demands of six customers.
 pub const DEMANDS: [u32; 6] = [1; 6];
@@ -20,11 +17,4 @@ pub fn line<'a>(rt: &impl Abort, n: u32, weights: &'a [u32]) -> Triangle<'a>
     expect(rt, weights.len() == (n * (n - 1) / 2) as usize);
     expect(rt, weights.iter().all(|weight| *weight <= 4_000_000_000));
     Triangle { n, weights }
-}
-
-/// A ring in the order of the list.
-pub fn ring_of(rt: &impl Abort, alloc: Global, elements: &[u32]) -> ArrayTour
-    ensures { order_of result ≡ elements.now }
-{
-    ArrayTour::from_list(alloc, elements).expect(rt, "a ring")
 }

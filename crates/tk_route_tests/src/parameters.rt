@@ -73,22 +73,23 @@ fn expect_files<A: Abort>(rt: &A, params: &Params, problem: &str, others: [&str;
     expect(rt, params.initial_tour_file() == Some(initial));
 }
 
+/// Checks what each key of a file sets.
+fn expect_each_key(rt: &impl Abort, params: &Params) {
+    expect_files(rt, params, "= p", ["a b", "s", "t"]);
+    let search = params.search();
+    expect_numbers(rt, &search, [10_000, 1_000_000, 4_294_967_295, 100, 1]);
+    expect(rt, search.construction == Construction::Savings);
+    expect(rt, search.final_sweep);
+    expect(rt, params.ignored() == [Key::Optimum].as_slice());
+}
+
 #[test]
 fn reads_each_key(rt: HostRuntime) {
     let text =
         b"OPTIMUM = 7 $\n\n TOUR_FILE\t=\t a b \r\nPROBLEM_FILE = = p\nSOLUTION_FILE s\nInitial_Tour_File=t\n\
         RUNS = 10000\nMAX_TRIALS = 1000000\nSEED = +4294967295\nMAX_CANDIDATES = 100\nCONSTRUCTION = Savings\n\
         FINAL_SWEEP = yes\nOR_SEGMENT = 1\nCOMMENT = $\nCOMMENT\nEOF x\nFOO";
-    let params = read(rt.alloc(), text).expect(&rt, "no fault");
-    expect_files(&rt, &params, "= p", ["a b", "s", "t"]);
-    expect_numbers(
-        &rt,
-        &params.search(),
-        [10_000, 1_000_000, 4_294_967_295, 100, 1],
-    );
-    expect(&rt, params.search().construction == Construction::Savings);
-    expect(&rt, params.search().final_sweep);
-    expect(&rt, params.ignored() == [Key::Optimum].as_slice());
+    expect_each_key(&rt, &read(rt.alloc(), text).expect(&rt, "no fault"));
 }
 
 #[test]

@@ -6,13 +6,13 @@ ghost use Rattle.tk_rings.specs.Rings.{IsLight};
 ghost use Rattle.tk_routes.specs.Cvrps.{instance_of};
 ghost use Rattle.tk_routes.specs.Routes.{AreRoutes};
 
-use crate::given::{TWO_SIDES, claim, cvrp_of, expect, expect_valid, problem_of};
+use crate::given::{TWO_SIDES, claim, cvrp_of, expect, expect_valid, loaded_ring, problem_of};
 use std::alloc::Global;
 use std::process::Abort;
 use tk_rings::{Capacity, LoadedRing, Stretch, ring_demands, ring_of};
 use tk_routes::Cvrp;
 use tk_text::{Problem, SolText};
-use tk_tour::{ArrayTour, TourStore, UndoStore};
+use tk_tour::{TourStore, UndoStore};
 
 /// Whether a stretch contains a copy of the depot, the load before its first copy and after its last, and whether the
 /// routes between two copies fit.
@@ -111,9 +111,8 @@ fn expect_stretches(rt: &impl Abort, alloc: Global, cvrp: &Cvrp<'_>, routes: &[V
     requires { AreRoutes (instance_of cvrp.now) (lists_of routes.now) }
 {
     let ring = ring_of(alloc, cvrp, routes).expect(rt, "memory for a ring");
-    let tour = ArrayTour::from_list(alloc, &ring).expect(rt, "a ring");
     let demands = ring_demands(alloc, cvrp).expect(rt, "memory for demands");
-    let loaded = LoadedRing::new(alloc, tour, 0, &demands).expect(rt, "memory for a ring");
+    let loaded = loaded_ring(rt, alloc, &ring, 0, &demands);
     let vehicles = Capacity {
         demands: &demands,
         capacity: cvrp.capacity() as u64,

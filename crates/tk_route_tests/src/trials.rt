@@ -3,8 +3,8 @@ ghost use Rattle.std.specs.Prelude.{◌≡◌, length};
 ghost use Rattle.tk_rings.specs.Capacities.{IsFitting};
 ghost use Rattle.tk_tour.specs.ArrayTours.{order_of};
 
-use crate::given::expect;
-use crate::line::{DEMANDS, line, ring_of};
+use crate::given::{expect, ring_of};
+use crate::line::{DEMANDS, line};
 use rand_core::SeedableRng;
 use rand_pcg::Pcg32;
 use std::alloc::Global;
