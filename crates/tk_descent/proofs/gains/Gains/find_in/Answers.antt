@@ -35,3 +35,6 @@ loop-offer-preserved g c =
 
 pub returns-clause-searched : goal.returns-clause-searched
 returns-clause-searched g c = grind (arith, common_steps)
+
+pub allows-requires-clause-on_tour : goal.allows-requires-clause-on_tour
+allows-requires-clause-on_tour g c = search rules

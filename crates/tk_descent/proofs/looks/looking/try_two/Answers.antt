@@ -1,4 +1,4 @@
-use Rattle.std.proofs.Common.{arith}
+use Rattle.std.proofs.Common.{arith, rules}
 use Rattle.std.proofs.lemmas.Grind.{common_steps}
 use Rattle.tk_descent.proofs.OfferLists.Gaining.{difference_fits}
 use Rattle.tk_descent.proofs.looks.looking.try_two.Goals as goal
@@ -10,3 +10,6 @@ overflow_sub-result g c =
 
 pub returns : goal.returns
 returns g c = grind (arith, common_steps)
+
+pub returns-then-not-is_nearer : goal.returns-then-not-is_nearer
+returns-then-not-is_nearer g c = search rules
