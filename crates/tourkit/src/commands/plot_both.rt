@@ -33,10 +33,8 @@ pub fn plot_both<'a>(
     second_file: &'a str,
     form: &OutputFormat<'_>,
 ) -> Result<ExitCode, Refusal<'a>> {
-    match placed_in(rt, problem_file) {
-        Ok(placed) => draw_both(rt, &placed, problem_file, first_file, second_file, form),
-        Err(refusal) => Err(refusal),
-    }
+    let placed = placed_in(rt, problem_file)?;
+    draw_both(rt, &placed, problem_file, first_file, second_file, form)
 }
 
 /// Reads a problem and its places. If standard input is closed, the file gets its number, so it must not stay open

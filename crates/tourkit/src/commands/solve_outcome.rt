@@ -52,10 +52,9 @@ fn outcome_for(
     initial: Option<Input>,
     watch: &mut SearchWatch<'_>,
 ) -> Result<SearchOutcome, Stop> {
-    let outcome = match task_of(search, problem) {
-        Ok(Task::Between(settings)) => between_routes(alloc, &settings, problem, initial, watch),
-        Ok(Task::Other(settings)) => other_search(alloc, &settings, problem, initial, watch),
-        Err(stop) => return Err(stop),
+    let outcome = match task_of(search, problem)? {
+        Task::Between(settings) => between_routes(alloc, &settings, problem, initial, watch),
+        Task::Other(settings) => other_search(alloc, &settings, problem, initial, watch),
     };
     outcome.map_err(Stop::Fault)
 }
