@@ -44,7 +44,7 @@ class Sources:
 
     def faults(self, body, folder, functions):
         """The faults of a body of the crate in a folder, which has these functions."""
-        yield from (f"there is no function {name}" for name in TITLE.findall(body.title.partition(": ")[0]) if name not in functions)
+        yield from (f"there is no function {name}" for name in TITLE.findall(body.name.partition(": ")[0]) if name not in functions)
         if all(old.split() == new.split() for _, old, new in body.changes):
             yield "it changes nothing"
         codes = [code_of(new) for _, _, new in body.changes]
@@ -97,6 +97,6 @@ def check(bodies_of, crates):
             wrong = [*sources.faults(body, crates / crate, functions)]
             passed, failed = passed + (not wrong), failed + bool(wrong)
             for fault in wrong:
-                print(f"{crate}: {body.title}: {fault}")
+                print(f"{crate}: {body.name}: {fault}")
     print(f"{passed} passed, {failed} failed")
     return not failed and passed > 0
