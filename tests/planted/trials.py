@@ -14,7 +14,7 @@ ROOT = Path(__file__).resolve().parent.parent.parent
 PARTS = ("src", "specs", "proofs")
 CONSTANT = re.compile(r"(?:const|static) (\w+):")
 ERROR = re.compile(r"^(?:\./)?(src/\S+?):(\d+):\d+: error", re.MULTILINE)
-NO_CODE = "no code"
+NOT_COMPILED = "does not compile"
 
 
 class Mutant:
@@ -148,7 +148,7 @@ class Trial:
         return {function for function, text in self.sources.functions() if re.search(names, text)}
 
     def check(self, members):
-        """Checks the functions that these mutants change, and what they call, and notes the verdict on each. Leaves out what is no code."""
+        """Checks the functions that these mutants change, and what they call, and notes the verdicts. Leaves out what does not compile."""
         texts = self.texts
         for mutant in members:
             texts = mutant.applied(texts)
@@ -159,7 +159,7 @@ class Trial:
         verdicts = verdicts_of(said)
         wrong = None if verdicts else self.mutant_at(members, ERROR.search(said))
         if wrong:
-            wrong.verdict, wrong.reason = NO_CODE, ERROR.search(said)[0]
+            wrong.verdict, wrong.reason = NOT_COMPILED, ERROR.search(said)[0]
             self.check([mutant for mutant in members if mutant is not wrong])
             return
         for mutant in members:
