@@ -17,7 +17,7 @@ ACCEPTED, REJECTED, LOST_NAME, UNDECIDED = "accepted", "rejected", "lost name", 
 
 
 class Function(NamedTuple):
-    """A function: the module of its type, or its own; its type, with the trait of its impl; and its name."""
+    """A function: its module, or that of its type if it is in an impl without a trait; its type and trait; and its name."""
 
     module: str
     owner: str
@@ -69,7 +69,7 @@ class Sources:
             return None  # a method of a trait without a body
         end = body if lines[body].endswith("{}") else next((at for at in range(body, len(lines)) if lines[at] == indent + "}"), -1)
         type_name, trait = owner_of(lines[:begin], indent)
-        function = Function(module_of(self.types.get(type_name, file)), type_name + trait, name)
+        function = Function(module_of(file if trait else self.types.get(type_name, file)), type_name + trait, name)
         return Place(function, begin, body) if line <= end else None
 
     def functions(self):
