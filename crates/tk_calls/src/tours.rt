@@ -105,7 +105,7 @@ fn wake_three(host: &Host<'_>) {
 
 /// Makes a cache of edge lengths for three cities.
 fn make_steps(host: &Host<'_>) {
-    let steps = again!(host, "EdgeCache::new", EdgeCache::new(host.alloc, 3));
+    let steps = again!(host, "EdgeCache::new", EdgeCache::new(host.alloc, 3, 2));
     if steps.is_some() {
         host.tell_number("EdgeCache::new", &3, "cities");
     }

@@ -1,14 +1,19 @@
 //! A cache of edge lengths.
-ghost use Rattle.std.specs.Prelude.{◌≡◌, ◌<◌, ◌-◌, [], ℕ, IfOk, pos};
+ghost use Rattle.std.specs.Prelude.{◌≡◌, ◌<◌, ◌≤◌, ◌-◌, [], ℕ, IfOk, pos};
+ghost use Rattle.tk_problem.specs.declared.limits.TheConstants.{CANDIDATE_LIMIT};
 ghost use Rattle.tk_distance.specs.Cities.{IsCity};
-ghost use Rattle.tk_descent.specs.EdgeCache.{AreMeasured, AreTrueOf, IsMeasured, knows, measured_of};
+ghost use Rattle.tk_descent.specs.EdgeCache.{AreMeasured, AreTrueOf, IsMeasured, knows, candidates_of, edges_of};
 
+use crate::candidate_cache::{CachedDistance, NO_DISTANCE};
 use std::alloc::{AllocError, Global};
 use tk_distance::Metric;
 
 /// The maximum number of cities that have a cache. With more cities, it does not fit into the processor's cache
 /// together with the coordinates and near lists, and reading it takes longer than the square roots that it saves.
 const REMEMBERED: u32 = 10_000;
+
+/// The maximum number of distances to candidates, for the same reason. If there are more, none is cached.
+const CANDIDATES_REMEMBERED: usize = 100_000;
 
 /// The entry of a city: two cities that have been its tour neighbours, and the distances to them. 0 means no city.
 #[derive(Clone, Copy, Drop)]
@@ -29,19 +34,28 @@ impl CachedEdges {
     }
 }
 
-/// A cache of edge lengths: for each city, two cities that have been its tour neighbours, and the distances to them.
-/// Entries stay correct for their metric when the tour changes.
+/// The lengths that a cache stores: for each city, two cities that have been its tour neighbours, and its candidates.
+#[derive(Drop)]
+pub(crate) struct Lengths {
+    pub edges: Vec<CachedEdges>,
+    pub candidates: Vec<CachedDistance>,
+}
+
+/// A cache of edge lengths: for each city, the distances to two cities that have been its tour neighbours, and to the
+/// cities of its near list. Entries stay correct for their metric when the tour changes.
 #[derive(Drop)]
 pub struct EdgeCache {
-    pub(crate) measured: Option<Vec<CachedEdges>>,
+    pub(crate) lengths: Option<Lengths>,
 }
 
 impl EdgeCache {
-    /// A cache for n cities, without entries. For more than 10,000 cities, nothing is cached.
+    /// A cache for n cities with near lists of this width, without entries. For more than 10,000 cities, nothing is
+    /// cached, and for more than 100,000 candidates of all cities together, no distance to a candidate.
     ///
     /// # Errors
     /// `AllocError` if memory runs out.
-    pub fn new(alloc: Global, n: u32) -> Result<EdgeCache, AllocError>
+    pub fn new(alloc: Global, n: u32, width: u32) -> Result<EdgeCache, AllocError>
+        requires { width ≤ CANDIDATE_LIMIT }
         ensures { IfOk result (λ s. (distance : ℕ → ℕ → ℕ) → AreTrueOf distance s) }
     {
         if n > REMEMBERED {
@@ -53,25 +67,36 @@ impl EdgeCache {
             to_one: 0,
             to_other: 0,
         };
+        let wanted = n as usize * width as usize;
+        let stored = if wanted <= CANDIDATES_REMEMBERED {
+            wanted
+        } else {
+            0
+        };
         Ok(EdgeCache {
-            measured: Some(vec![in alloc; none; n as usize]?),
+            lengths: Some(Lengths {
+                edges: vec![in alloc; none; n as usize]?,
+                candidates: vec![in alloc; NO_DISTANCE; stored]?,
+            }),
         })
     }
 
     /// A cache that never has entries.
     pub fn none() -> EdgeCache
-        ensures { measured_of result ≡ [] }
+        ensures edges { edges_of result ≡ [] }
+        ensures candidates { candidates_of result ≡ [] }
     {
-        EdgeCache { measured: None }
+        EdgeCache { lengths: None }
     }
 
     /// Takes the cache, and leaves one that never has entries.
     pub fn take(&mut self) -> EdgeCache
         ensures taken { result ≡ self.old }
-        ensures left { measured_of self.new ≡ [] }
+        ensures edges { edges_of self.new ≡ [] }
+        ensures candidates { candidates_of self.new ≡ [] }
     {
         EdgeCache {
-            measured: self.measured.take(),
+            lengths: self.lengths.take(),
         }
     }
 }

@@ -2,6 +2,7 @@
 //! descents, for the TSP and under a rule.
 #![tactic(auto)]
 
+mod candidate_cache;
 mod descent;
 mod edge_cache;
 mod gains;

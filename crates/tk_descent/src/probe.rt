@@ -111,12 +111,13 @@ impl<'a, M: Metric> Gains for Probe<'a, M> {
         or_segment: u32,
         city: u32,
     ) -> Option<Found> {
-        match &mut self.steps.measured {
-            Some(steps) => find_offer(
+        match &mut self.steps.lengths {
+            Some(lengths) => find_offer(
                 tour,
                 self.metric,
                 rule,
-                steps,
+                &mut lengths.edges,
+                &mut lengths.candidates,
                 &mut self.count,
                 near,
                 or_segment,
@@ -126,6 +127,7 @@ impl<'a, M: Metric> Gains for Probe<'a, M> {
                 tour,
                 self.metric,
                 rule,
+                &mut [],
                 &mut [],
                 &mut self.count,
                 near,

@@ -52,6 +52,9 @@ impl Metric for Euclid<'_> {
 
     #[inline(always)]
     fn is_nearer(&self, a: u32, b: u32, limit: i64) -> bool {
+        if limit <= 0 {
+            return false; // the limits of most gain tests
+        }
         let (a, b) = (a as usize - 1, b as usize - 1);
         is_whole_nearer(
             PlaneKind::Euc2d,

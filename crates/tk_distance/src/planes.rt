@@ -93,6 +93,9 @@ impl Metric for Planes<'_> {
 
     #[inline]
     fn is_nearer(&self, a: u32, b: u32, limit: i64) -> bool {
+        if limit <= 0 {
+            return false; // the limits of most gain tests
+        }
         let (a, b) = (a as usize - 1, b as usize - 1);
         let bound = bound_of(limit);
         match self.places {

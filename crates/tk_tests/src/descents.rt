@@ -420,7 +420,7 @@ fn descend_remembering<M: Metric>(
 #[test]
 fn remembers_steps(rt: HostRuntime) -> Result<(), AllocError> {
     let metric = triangle(&rt, 5, UNEVEN);
-    let steps = EdgeCache::new(rt.alloc(), 5)?;
+    let steps = EdgeCache::new(rt.alloc(), 5, 2)?;
     let near = near_of(&rt, rt.alloc(), &metric, 2);
     descend_remembering(&rt, rt.alloc(), &metric, &near, steps);
     Ok(())

@@ -17,6 +17,9 @@ use Rattle.std.proofs.Math.Nat.{mul-le-mul_left}
 use Rattle.tk_problem.specs.declared.limits.TheConstants.{DISTANCE_LIMIT}
 use Rattle.tk_descent.specs.declared.offer.Segment.{Segment}
 use Rattle.tk_descent.specs.declared.offer.Found.{Found}
+use Rattle.tk_descent.specs.declared.looks.sharing.CityWithNeighbours.{CityWithNeighbours}
+use Rattle.tk_descent.specs.declared.looks.sharing.RemovedSegment.{RemovedSegment}
+use Rattle.tk_descent.specs.Sharing.{piece_offers}
 
 pub step_improves : (b : Bool) (o p : Offer) (r : Option Offer) (P : Offer → Type 0) → (b ≡ true → P o) →
     (r ≡ Some p → P p) → cond b (Some o) r ≡ Some p → P p
@@ -102,6 +105,28 @@ pub offers-le : (C near : List ℕ) (m x : ℕ) → 1 ≤ m → length (offers C
 offers-le C near m x l =
     length-flat_map-le (offers_between C m x) (4 * m)
     (λ y. offers_with-le (next_city C) (prev_city C) (length C) m x y l) near
+
+-- at most one test for each offer
+Searched-le : {may : Offer → Bool} (d : ℕ → ℕ → ℕ) (os : List Offer) (r : Option Found) (t u : ℕ) →
+    Searched d may os r t u → u ≤ t + length os
+Searched-le {may} d os r t u h = omega (arith, h.tests, tests_until-le d may os)
+
+pub first_counted : {may : Offer → Bool} (d : ℕ → ℕ → ℕ) (o : Offer) (r : Option Found) (t u : ℕ) →
+    Searched d may (o ∷ []) r t u → u ≤ t + 1
+first_counted d o r t u h = omega (arith, Searched-le d (o ∷ []) r t u h)
+
+pub one_counted : {may : Offer → Bool} (d : ℕ → ℕ → ℕ) (x y : ℕ) (s : Segment) (w : ℕ) (r : Option Found) (t u : ℕ) →
+    Searched d may (or_offer x y s w) r t u → u ≤ t + 1
+one_counted d x y s w r t u h = omega (arith, Searched-le d (or_offer x y s w) r t u h, or_offer-le x y s w)
+
+pub pieces_counted : {may : Offer → Bool} (d : ℕ → ℕ → ℕ) (x : ℕ) (y : CityWithNeighbours) (ps : List RemovedSegment)
+    (r : Option Found) (t u : ℕ) → Searched d may (flat_map (piece_offers x y) ps) r t u → u ≤ t + 2 * length ps
+pieces_counted d x y ps r t u h =
+    omega (
+      arith,
+      Searched-le d (flat_map (piece_offers x y) ps) r t u h,
+      length-flat_map-le (piece_offers x y) 2 (λ p. or_offers-le x y.city y.after y.before p.segment) ps,
+    )
 
 -- at most 4 * m tests for each near city
 pub tested : {may : Offer → Bool} (d : ℕ → ℕ → ℕ) (C near : List ℕ) (m x t u k : ℕ) (r : Option Found) → 1 ≤ m →

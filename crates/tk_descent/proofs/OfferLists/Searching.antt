@@ -1,7 +1,7 @@
 -- A search of a list in parts.
 use Rattle.std.proofs.Common.{◌≡◌, ℕ, suc, ◌+◌, ◌<◌, Bool, true, false, cond, List, [], ◌∷◌, ◌++◌, length, get_or, take}
 use Rattle.std.proofs.Common.{drop, Option, Some, None, refl, sym, ◌∙◌, ap, arith, append-nil, take-append-drop, subst}
-use Rattle.std.proofs.Common.{map}
+use Rattle.std.proofs.Common.{map, ◌||◌}
 use Rattle.std.specs.List.{flat_map}
 use Rattle.std.proofs.lemmas.List.{take_more, take-map}
 use Rattle.std.proofs.lemmas.List.Folds.{flat_map-map}
@@ -11,7 +11,7 @@ use Rattle.std.proofs.lemmas.List.Elements.{All-cons, All-nil}
 use Rattle.tk_tour.specs.Counters.{saturated}
 use Rattle.tk_tour.specs.Tour.{next_city, prev_city}
 use Rattle.tk_descent.specs.Offers.{offers_between, first_allowed, tests_until, Searched, is_taken, or_offers, segments}
-use Rattle.tk_descent.specs.Offers.{segment_count, all_segments}
+use Rattle.tk_descent.specs.Offers.{segment_count, all_segments, covers}
 use Rattle.tk_descent.specs.Sharing.{segment_of, piece_offers}
 use Rattle.tk_descent.specs.declared.looks.sharing.CityWithNeighbours.{CityWithNeighbours}
 use Rattle.tk_descent.specs.declared.looks.sharing.RemovedSegment.{RemovedSegment}
@@ -100,6 +100,23 @@ module _ {X : Type 0} (d : ℕ → ℕ → ℕ) (f : X → List Offer) (xs : Lis
 -- a search of the empty list
 pub Searched-none : {may : Offer → Bool} (d : ℕ → ℕ → ℕ) (t : ℕ) → t < 18446744073709551616 → Searched d may [] None t t
 Searched-none {may} d t h = record { found = refl; worth = tt; tests = omega (arith, h) }
+
+-- the tests of a search are added to those before it
+pub Searched-added : {may : Offer → Bool} (d : ℕ → ℕ → ℕ) (os : List Offer) (r : Option Found) (t u v : ℕ) →
+    v ≡ saturated (t + u) → Searched d may os r 0 u → Searched d may os r t v
+Searched-added {may} d os r t u v e h =
+    record { found = h.found; worth = h.worth; tests = omega (arith, e, h.tests) }
+
+-- the Or-opt offers with a city of the segment: there are none
+none_of : (a b c : Bool) (o p : Offer) → a ≡ true → cond (a || b) [] (o ∷ []) ++ cond (a || c) [] (p ∷ []) ≡ []
+none_of true b c o p h = refl
+none_of false b c o p h = cc
+
+pub Searched-inside : {may : Offer → Bool} (d : ℕ → ℕ → ℕ) (x y ay by : ℕ) (s : Segment) (t : ℕ) →
+    covers x s y ≡ true → t < 18446744073709551616 → Searched d may (or_offers x y ay by s) None t t
+Searched-inside {may} d x y ay by s t h lt =
+    subst (λ z. Searched d may z None t t) (sym (none_of (covers x s y) (covers x s ay) (covers x s by) _ _ h))
+    (Searched-none d t lt)
 
 pub at_table : {may : Offer → Bool} (d e : ℕ → ℕ → ℕ) (os : List Offer) (r : Option Found) (t u : ℕ) → e ≡ d →
     Searched e may os r t u → Searched d may os r t u

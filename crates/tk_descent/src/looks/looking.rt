@@ -1,16 +1,18 @@
 //! A look at a city tries its offers in order.
-ghost use Rattle.std.specs.Prelude.{◌≡◌, ◌≤◌, ◌<◌, [], ◌∷◌, length, flat_map, All, IfSome, None, ◌+◌, ◌*◌, pos};
+ghost use Rattle.std.specs.Prelude.{◌≡◌, ◌≤◌, ◌<◌, ◌^◌, [], ◌∷◌, length, flat_map, All, IfSome, None, false, pos};
+ghost use Rattle.std.specs.Prelude.{◌+◌, ◌*◌};
 ghost use Rattle.tk_near.specs.Near.{near_of};
 ghost use Rattle.tk_descent.specs.Looks.{Looked};
 ghost use Rattle.tk_descent.specs.Offers.{covers, Searched, or_offer, offers_at, EndsIn, segment_count};
 ghost use Rattle.tk_descent.specs.Sharing.{IsCityWithNeighbours, IsRemovedSegment, piece_offers, two_margin, or_margin};
-ghost use Rattle.tk_descent.specs.EdgeCache.{AreMeasured};
+ghost use Rattle.tk_descent.specs.EdgeCache.{AreMeasured, IsCached};
 ghost use Rattle.tk_distance.specs.Cities.{IsCity};
 ghost use Rattle.tk_descent.specs.Machine.{IsOfferOn};
 ghost use Rattle.tk_descent.specs.WakeMachine.{HasNoOffer};
 ghost use Rattle.tk_descent.specs.declared.offer.Offer.TheVariants.{Two};
 ghost use Rattle.tk_descent.specs.Ruled.{Each, IsOnTour};
 
+use crate::candidate_cache::{CachedDistance, cached_distance};
 use crate::edge_cache::CachedEdges;
 use crate::gains::Gains;
 use crate::looks::segments::segment_count;
@@ -41,10 +43,11 @@ fn try_two<S: TourStore, M: Metric, R: Rule<S>>(
     requires on_tour { IsOnTour (S.cities tour.now) (Two a b c d) }
     requires cities { EndsIn (M.size_of metric.now) (Two a b c d) }
     requires margin { margin ≡ two_margin (M.distance metric.now) a b c d }
+    requires room { count.old + 1 < 2 ^ 64 }
     ensures { Searched (M.distance metric.now) (R.allowed rule.now (S.cities tour.now)) (Two a b c d ∷ [])
         result count.old count.new }
 {
-    *count = count.saturating_add(1);
+    *count += 1;
     if !metric.is_nearer(b, d, margin) {
         return None;
     }
@@ -58,9 +61,9 @@ fn try_two<S: TourStore, M: Metric, R: Rule<S>>(
     })
 }
 
-/// Tests the Or-opt offer of a segment between y and w, unless one of these lies in the segment. Its gain is `margin`
-/// minus the length of the new edge from the last city of the segment to w. If it is positive, the rule is asked
-/// whether the offer is allowed.
+/// Tests the Or-opt offer of a segment between y, which does not lie in the segment, and w, unless w lies in it. Its
+/// gain is `margin` minus the length of the new edge from the last city of the segment to w. If it is positive, the
+/// rule is asked whether the offer is allowed.
 #[inline(always)]
 fn try_or<S: TourStore, M: Metric, R: Rule<S>>(
     tour: &S,
@@ -78,14 +81,15 @@ fn try_or<S: TourStore, M: Metric, R: Rule<S>>(
     requires on_tour { Each (IsOnTour (S.cities tour.now)) (or_offer x y segment.now w) }
     requires cities { IsCity (M.size_of metric.now) segment.now.last × IsCity (M.size_of metric.now) w }
     requires margin { margin ≡ or_margin (M.distance metric.now) x y segment.now w }
+    requires outside { covers x segment.now y ≡ false }
+    requires room { count.old + 1 < 2 ^ 64 }
     ensures { Searched (M.distance metric.now) (R.allowed rule.now (S.cities tour.now)) (or_offer x y segment.now w)
         result count.old count.new }
 {
-    let _counted = *count; // the count at the start, for the proof
-    if segment.covers(x, y) || segment.covers(x, w) {
+    if segment.covers(x, w) {
         return None;
     }
-    *count = count.saturating_add(1);
+    *count += 1;
     if !metric.is_nearer(segment.last, w, margin) {
         return None;
     }
@@ -119,8 +123,8 @@ fn margin_of<M: Metric>(
     piece.freed - across + beside
 }
 
-/// Tests the Or-opt offers of a segment from x between y and each of its neighbours. The distance from x to y is
-/// `across`.
+/// Tests the Or-opt offers of a segment from x between y and each of its neighbours, unless y lies in the segment. The
+/// distance from x to y is `across`.
 #[inline(always)]
 fn try_piece<S: TourStore, M: Metric, R: Rule<S>>(
     tour: &S,
@@ -138,9 +142,13 @@ fn try_piece<S: TourStore, M: Metric, R: Rule<S>>(
     requires piece { IsRemovedSegment (M.size_of metric.now) (M.distance metric.now) x piece.now }
     requires beside { IsCityWithNeighbours (M.size_of metric.now) (M.distance metric.now) y.now }
     requires across { across ≡ pos (M.distance metric.now x y.now.city) }
+    requires room { count.old + 2 < 2 ^ 64 }
     ensures { Searched (M.distance metric.now) (R.allowed rule.now (S.cities tour.now)) (piece_offers x y.now piece.now)
         result count.old count.new }
 {
+    if piece.segment.covers(x, y.city) {
+        return None;
+    }
     let margin = margin_of(metric, x, y.city, piece, y.after, across, y.to_after);
     if let Some(found) = try_or(
         tour,
@@ -187,10 +195,10 @@ fn try_segments<S: TourStore, M: Metric, R: Rule<S>>(
     requires pieces { All (IsRemovedSegment (M.size_of metric.now) (M.distance metric.now) x) pieces.now }
     requires beside { IsCityWithNeighbours (M.size_of metric.now) (M.distance metric.now) y.now }
     requires across { across ≡ pos (M.distance metric.now x y.now.city) }
+    requires room { count.old + 2 * length pieces.now < 2 ^ 64 }
     ensures { Searched (M.distance metric.now) (R.allowed rule.now (S.cities tour.now))
         (flat_map (piece_offers x y.now) pieces.now) result count.old count.new }
 {
-    let _counted = *count; // the count at the start, for the proof
     for piece in pieces {
         if let Some(found) = try_piece(tour, metric, rule, count, x, piece, y, across) {
             return Some(found);
@@ -199,7 +207,7 @@ fn try_segments<S: TourStore, M: Metric, R: Rule<S>>(
     None
 }
 
-/// Tests the offers of x with y.
+/// Tests the offers of x with y, at the distance `across` from it.
 #[inline(always)]
 fn try_city<S: TourStore, M: Metric, R: Rule<S>>(
     tour: &S,
@@ -209,6 +217,7 @@ fn try_city<S: TourStore, M: Metric, R: Rule<S>>(
     x: &CityWithNeighbours,
     pieces: &[RemovedSegment],
     y: &CityWithNeighbours,
+    across: i64,
 ) -> Option<Found>
     requires suits { R.Suits rule.now tour.now }
     requires fits { R.Fits rule.now (S.cities tour.now) }
@@ -218,11 +227,12 @@ fn try_city<S: TourStore, M: Metric, R: Rule<S>>(
     requires from { IsCityWithNeighbours (M.size_of metric.now) (M.distance metric.now) x.now }
     requires pieces { All (IsRemovedSegment (M.size_of metric.now) (M.distance metric.now) x.now.city) pieces.now }
     requires beside { IsCityWithNeighbours (M.size_of metric.now) (M.distance metric.now) y.now }
+    requires across { across ≡ pos (M.distance metric.now x.now.city y.now.city) }
+    requires room { count.old + 2 + 2 * length pieces.now < 2 ^ 64 }
     ensures { Searched (M.distance metric.now) (R.allowed rule.now (S.cities tour.now))
         (Two x.now.city x.now.after y.now.city y.now.after ∷ Two x.now.city x.now.before y.now.city y.now.before
         ∷ flat_map (piece_offers x.now.city y.now) pieces.now) result count.old count.new }
 {
-    let across = metric.dist(x.city, y.city);
     let margin = x.to_after + y.to_after - across;
     if let Some(found) = try_two(
         tour, metric, rule, count, x.city, x.after, y.city, y.after, margin,
@@ -245,6 +255,7 @@ pub(crate) fn find_offer<S: TourStore, M: Metric, R: Rule<S>>(
     metric: &M,
     rule: &R,
     steps: &mut [CachedEdges],
+    candidates: &mut [CachedDistance],
     count: &mut u64,
     near: &Near,
     or_segment: u32,
@@ -254,6 +265,7 @@ pub(crate) fn find_offer<S: TourStore, M: Metric, R: Rule<S>>(
     requires city { IsCity (length (S.cities tour.now)) city }
     requires most { (1 ≤ or_segment) × (or_segment ≤ 3) }
     requires known { AreMeasured (M.distance metric.now) steps.old }
+    requires cached { All (IsCached (M.distance metric.now)) candidates.old }
     requires suits { R.Suits rule.now tour.now }
     requires tour { R.Fits rule.now (S.cities tour.now) }
     ensures searched { Searched (M.distance metric.now) (R.allowed rule.now (S.cities tour.now))
@@ -262,19 +274,23 @@ pub(crate) fn find_offer<S: TourStore, M: Metric, R: Rule<S>>(
         × EndsIn (length (S.cities tour.now)) f.offer) }
     ensures bound { count.new ≤ count.old + 4 * or_segment * near.now.width }
     ensures known { AreMeasured (M.distance metric.now) steps.new }
+    ensures cached { All (IsCached (M.distance metric.now)) candidates.new }
 {
-    let mut tests = *count;
+    let mut tests = 0;
     let from = look_beside(tour, metric, steps, city);
     let all = pieces_of(tour, metric, steps, &from);
     let pieces = &all[..segment_count(size(tour), or_segment)];
-    for y in near.of(city) {
+    let list = near.of(city);
+    let first = (city as usize - 1) * near.width() as usize;
+    for (k, y) in list.iter().enumerate() {
         let y = look_beside(tour, metric, steps, *y);
-        if let Some(found) = try_city(tour, metric, rule, &mut tests, &from, pieces, &y) {
-            *count = tests;
+        let across = cached_distance(metric, candidates, first + k, city, y.city);
+        if let Some(found) = try_city(tour, metric, rule, &mut tests, &from, pieces, &y, across) {
+            *count = count.saturating_add(tests);
             return Some(found);
         }
     }
-    *count = tests;
+    *count = count.saturating_add(tests);
     None
 }
 

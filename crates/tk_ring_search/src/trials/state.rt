@@ -69,7 +69,7 @@ impl<'a, S: UndoStore> State<'a, S> {
         let before = length(terms.metric, best.elements());
         let mut ring = LoadedRing::new(alloc, ring, n + SPARE, terms.vehicles.demands)?;
         let mut waking = Waking::new(alloc, n)?;
-        let mut steps = EdgeCache::new(alloc, n)?;
+        let mut steps = EdgeCache::new(alloc, n, terms.near.width())?;
         waking.wake_all();
         let report = descend(&mut ring, terms, &mut waking, &mut steps, before);
         best.take(ring.tour());

@@ -101,7 +101,7 @@ impl<S: UndoStore> State<S> {
             tour: JournalTour::new(alloc, tour, n)?,
             best,
             waking: Waking::new(alloc, n)?,
-            steps: EdgeCache::new(alloc, n)?,
+            steps: EdgeCache::new(alloc, n, near.width())?,
             shortest,
             totals: Totals::new(shortest),
         })

@@ -3,7 +3,7 @@
 use crate::given::{expect, expect_list, near_of, triangle};
 use std::alloc::Global;
 use std::process::Abort;
-use tk_build::{savings_lists, savings_tour};
+use tk_build::savings_lists;
 use tk_metric::Metric;
 
 /// The lists of the savings algorithm, with near lists of all other cities.
@@ -45,22 +45,6 @@ fn expect_lists<M: Metric>(
         let lists = lists_of(rt, alloc, metric, hub, loads, *capacity);
         expect_each(rt, &lists, *want);
     }
-}
-
-/// Checks that the tour of the savings algorithm is this one.
-fn expect_tour<M: Metric>(rt: &impl Abort, alloc: Global, metric: &M, want: &[u32]) {
-    let n = metric.size();
-    expect(rt, 2 <= n);
-    let near = near_of(rt, alloc, metric, n - 1);
-    let tour = savings_tour(alloc, metric, &near).expect(rt, "memory for a tour");
-    expect_list(rt, &tour, want);
-}
-
-/// (0,0) (10,10) (10,0) (0,10), EUC_2D
-#[test]
-fn tour_of_a_square(rt: HostRuntime) {
-    let square = triangle(&rt, 4, &[14, 10, 10, 10, 10, 14]);
-    expect_tour(&rt, rt.alloc(), &square, &[1, 3, 2, 4]);
 }
 
 /// The distances of cities, a hub, the loads of the cities, and the lists next to each capacity.
