@@ -60,12 +60,13 @@ pub mod routes {
 pub mod engines {
     pub use tk_engines::{
         Construction, Fault, FoundBetween, FoundRoutes, FoundTour, Key, NoObserver, ParamFault,
-        ParamKind, Params, Plotted, Progress, RouteFault, RouteProgress, RouteRun, RouteVerdict,
-        RouteWatch, SearchBuilder, SearchOutcome, SearchSettings, TourFault, TourOutcome, Verdict,
-        Watch, between_engine, between_outcome, check_engine, key_of, matrix_engine, near_engine,
-        plot_engine, read_params, route_check_engine, route_outcome, route_outcome_of,
-        search_between, search_engine, search_outcome, search_problem, solve_engine, tour_outcome,
-        tour_outcome_of, unfit_key, write_found, write_route_run_line, write_route_verdict,
-        write_run_line, write_search_lines, write_tour_outcome,
+        ParamKind, Params, Progress, RouteFault, RouteProgress, RouteRun, RouteVerdict, RouteWatch,
+        SearchBuilder, SearchOutcome, SearchSettings, TourFault, TourOutcome, Verdict, Watch,
+        between_engine, between_outcome, check_engine, key_of, matrix_engine, near_engine,
+        read_params, route_check_engine, route_outcome, route_outcome_of, search_between,
+        search_engine, search_outcome, search_problem, solve_engine, tour_outcome, tour_outcome_of,
+        unfit_key, write_found, write_route_run_line, write_route_verdict, write_run_line,
+        write_search_lines, write_tour_outcome,
     };
+    pub use tk_plot::{Plotted, plot_engine};
 }

@@ -1,5 +1,4 @@
 pub mod BetweenEnds
-pub mod ClaimsPlotted
 pub mod EngineEnds
 pub mod FilesWritten
 pub mod FoundCounts
@@ -8,7 +7,6 @@ pub mod NearLines
 pub mod ProblemTables
 pub mod ReadTables
 pub mod RouteChecks
-pub mod DrawnOutcomes
 pub mod SolveEnds
 pub mod StartChecks
 pub mod TextsRead

@@ -4,7 +4,6 @@ pub mod Engine
 pub mod Info
 pub mod MatrixOf
 pub mod NearText
-pub mod Plot
 pub use Rattle.tk_params.specs.Requested
 pub use Rattle.tk_params.specs.SearchOf
 pub use Rattle.tk_params.specs.Keys

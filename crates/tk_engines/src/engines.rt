@@ -5,8 +5,6 @@ pub mod check;
 pub mod info;
 pub mod matrix;
 pub mod near;
-pub mod plot;
-pub mod plotted;
 pub mod route_check;
 pub mod search;
 pub mod search_given;

@@ -15,9 +15,9 @@ use Rattle.tk_engines.specs.declared.fault.Fault.TheVariants as faults
 use Rattle.tk_picture.specs.Pictures.{names_fit}
 use Rattle.tk_picture.specs.declared.picture.OutputFormat.{OutputFormat}
 use Rattle.tk_picture.specs.declared.picture.OutputFormat.TheVariants as forms
-use Rattle.tk_engines.specs.Plot.{Claim, Drawn, Nothing, Output, ReadsClaim, ReadsPlaced, Refused, RoutesClaim}
-use Rattle.tk_engines.specs.Plot.{TourClaim, WritesOutput, or_wrong_names, plot_task, undrawable, without_places}
-use Rattle.tk_engines.specs.declared.engines.plotted.Plotted.{Plotted}
+use Rattle.tk_plot.specs.Plot.{Claim, Drawn, Nothing, Output, ReadsClaim, ReadsPlaced, Refused, RoutesClaim}
+use Rattle.tk_plot.specs.Plot.{TourClaim, WritesOutput, or_wrong_names, plot_task, undrawable, without_places}
+use Rattle.tk_plot.specs.declared.plotted.Plotted.{Plotted}
 use Rattle.tk_for_c.proofs.TextsSaid.{has_fault, says}
 use Rattle.tk_for_c.specs.Answers.{IsStopIn, NeverClashes}
 use Rattle.tk_for_c.specs.Plotted.{ClaimSays, IsNameless, IsPlotOf, IsSolutionFault, IsTourFault, line_in}

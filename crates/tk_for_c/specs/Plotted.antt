@@ -4,10 +4,10 @@ use Rattle.tk_text.specs.Placed.{PlacedIs, placed_texts}
 use Rattle.tk_text.specs.Problem.{ProblemIs}
 use Rattle.tk_text.specs.Solution.{solution_texts}
 use Rattle.tk_text.specs.Tour.{tour_texts}
-use Rattle.tk_engines.specs.declared.engines.plotted.Plotted.{Plotted}
-use Rattle.tk_engines.specs.declared.engines.plotted.Plotted.TheVariants as plotted
-use Rattle.tk_engines.specs.Plot.{Claim, Drawn, IsPlot, Nothing, Output, Refused, RoutesClaim, TourClaim}
-use Rattle.tk_engines.specs.Plot.{without_places}
+use Rattle.tk_plot.specs.declared.plotted.Plotted.{Plotted}
+use Rattle.tk_plot.specs.declared.plotted.Plotted.TheVariants as plotted
+use Rattle.tk_plot.specs.Plot.{Claim, Drawn, IsPlot, Nothing, Output, Refused, RoutesClaim, TourClaim}
+use Rattle.tk_plot.specs.Plot.{without_places}
 use Rattle.tk_engines.specs.declared.fault.Fault.{Fault}
 use Rattle.tk_page.specs.PageParts.{ArePageParts}
 use Rattle.tk_picture.specs.declared.node_names.NodeNames.{NodeNames}

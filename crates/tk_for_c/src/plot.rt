@@ -1,7 +1,7 @@
 //! Draws the problems of texts in memory.
 ghost use Rattle.std.specs.Prelude.{◌≡◌, ◌≤◌, IfOk, IfErr};
-ghost use Rattle.tk_engines.specs.Plot.{Output};
-ghost use Rattle.tk_engines.specs.declared.engines.plotted.Plotted.{Plotted};
+ghost use Rattle.tk_plot.specs.Plot.{Output};
+ghost use Rattle.tk_plot.specs.declared.plotted.Plotted.{Plotted};
 ghost use Rattle.tk_picture.specs.declared.picture.OutputFormat.TheVariants.{Svg};
 ghost use Rattle.tk_text.specs.Placed.{placed_texts};
 ghost use Rattle.tk_for_c.specs.Answers.{IsRightRefusalIn, IsStopIn, NeverClashes};
@@ -14,9 +14,10 @@ ghost use Rattle.tk_for_c.specs.Texts.{IsSomeText};
 use crate::answer::{Answer, stopped};
 use crate::hand_out::hand_out;
 use std::alloc::Global;
-use tk_engines::{Fault, Plotted, plot_engine};
+use tk_engines::Fault;
 use tk_page::page_parts;
 use tk_picture::{NodeNames, OutputFormat};
+use tk_plot::{Plotted, plot_engine};
 use tk_routes::RouteVerdict;
 use tk_text::{FromRead, ToWrite};
 use tk_tour::Verdict;

@@ -5,9 +5,8 @@ ghost use Rattle.std.specs.Prelude.{◌≤◌, length};
 use crate::given::{expect, expect_bytes};
 use std::alloc::Global;
 use std::process::Abort;
-use tk_engines::{
-    Fault, NAME_LIMIT, NodeName, NodeNames, OutputFormat, Parts, Plotted, RouteVerdict, plot_engine,
-};
+use tk_engines::{Fault, RouteVerdict};
+use tk_plot::{NAME_LIMIT, NodeName, NodeNames, OutputFormat, Parts, Plotted, plot_engine};
 use tk_text::{FromRead, ToWrite};
 
 /// Two customers on the two sides of a depot, which is the second node.

@@ -1,10 +1,10 @@
 //! The best result of a long search so far, in a file next to the one that the search will write.
 use crate::best_place::BestPlace;
 use crate::found::{Copied, Found};
-use crate::search::Search;
 use crate::written::InputFiles;
 use std::alloc::AllocError;
 use std::time::{Clock, Duration};
+use tk_console::search::Search;
 use tk_writers::ToWrite;
 
 /// The result is first saved after this many seconds, and then at most once in this many seconds.

@@ -1,14 +1,14 @@
 //! The file next to the output file of a search that keeps its best result so far.
-use crate::file_id::{Stamp, id_of};
 use crate::judged::{Judged, judge};
-use crate::named::Named;
 use crate::part::replace;
-use crate::report;
-use crate::search::Search;
 use crate::written::InputFiles;
 use std::alloc::AllocError;
 use std::fs::{self, File};
 use std::io::ErrorKind;
+use tk_console::file_id::{Stamp, id_of};
+use tk_console::named::Named;
+use tk_console::report;
+use tk_console::search::Search;
 use tk_words::FromRead;
 
 /// The place of this file. The file of another search may be there.

@@ -8,11 +8,11 @@ use crate::commands::matrix::matrix_command;
 use crate::commands::near::near_command;
 use crate::commands::plot::plot_command;
 use crate::commands::solve::solve_command;
-use crate::refusal::Refusal;
-use crate::report;
 use crate::words::words_of_call;
 use std::process::ExitCode;
 use tk_command_line::{Request, parse};
+use tk_console::refusal::Refusal;
+use tk_console::report;
 use tk_engines::{RouteVerdict, TourOutcome};
 
 /// Parses the arguments of the program, runs the command that they request, and reports why it stops if it does.

@@ -1,7 +1,7 @@
 //! The text of a file that is explained: the whole file, or the part that determines the explanation.
-use crate::input::Input;
 use std::alloc::{AllocError, Global};
 use std::io::Read;
+use tk_console::input::Input;
 use tk_kinds::{Kind, kind_of, last_line};
 use tk_lists::{read_solution, read_tour};
 use tk_params::{ParamKind, read_params};

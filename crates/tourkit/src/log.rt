@@ -1,18 +1,18 @@
 //! The log of a search: a line for each trial that improves the best result of its run.
-use crate::file_id::{FileId, id_of};
-use crate::named::Named;
-use crate::objects::{RouteImprovement, TourImprovement};
-use crate::printed::json_line;
-use crate::progress::ProgressLine;
-use crate::refusal::{KeyMisfit, Reason, Refusal};
-use crate::report;
-use crate::search::Search;
 use crate::written::InputFiles;
 use serde::Serialize;
 use std::fs::{self, File};
 use std::io::Write;
 use std::num::nearest_u64_to_f64;
 use std::time::{Clock, Duration};
+use tk_console::file_id::{FileId, id_of};
+use tk_console::named::Named;
+use tk_console::objects::{RouteImprovement, TourImprovement};
+use tk_console::printed::json_line;
+use tk_console::progress::ProgressLine;
+use tk_console::refusal::{KeyMisfit, Reason, Refusal};
+use tk_console::report;
+use tk_console::search::Search;
 use tk_engines::{Progress, RouteProgress};
 use tk_params::Key;
 

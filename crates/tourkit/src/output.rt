@@ -1,10 +1,10 @@
 //! Writes the output file of `solve`.
-use crate::file_id::{FileId, id_of};
 use crate::part::{Part, Unsaved, hindered, replace};
-use crate::refusal::{Reason, Refusal};
 use std::fs::{self, File, Metadata};
 use std::io::{self, ErrorKind, Seek, SeekFrom, Write};
 use std::path::{Path, PathBuf};
+use tk_console::file_id::{FileId, id_of};
+use tk_console::refusal::{Reason, Refusal};
 
 /// Maximum number of links that are followed from a name to a file that does not exist yet.
 const LINKS: u32 = 40;

@@ -1,7 +1,7 @@
 //! The time limit of a search.
-use crate::progress::Stage;
-use crate::report;
 use std::time::{Clock, Duration};
+use tk_console::progress::Stage;
+use tk_console::report;
 
 /// A time limit, and where the search was when it was exceeded.
 #[derive(Drop)]

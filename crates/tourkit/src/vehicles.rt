@@ -1,6 +1,6 @@
 //! The vehicles that the routes of a solution need.
-use crate::search::Search;
 use std::fmt;
+use tk_console::search::Search;
 use tk_engines::SearchOutcome;
 
 /// A solution with more routes than there are vehicles.

@@ -2,11 +2,11 @@
 use crate::best::BestFile;
 use crate::found::{Found, copied_routes};
 use crate::log::Log;
-use crate::progress::{ProgressLine, Stage};
-use crate::search::Search;
 use crate::time_limit::TimeLimit;
 use crate::written::InputFiles;
 use std::alloc::AllocError;
+use tk_console::progress::{ProgressLine, Stage};
+use tk_console::search::Search;
 use tk_engines::{RouteProgress, RouteRun, RouteWatch, write_route_run_line, write_run_line};
 use tk_solve::{Progress, RunReport, Watch};
 use tk_writers::ToWrite;

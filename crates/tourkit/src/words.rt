@@ -1,6 +1,6 @@
 //! The arguments of the program.
-use crate::refusal::{Reason, Refusal};
 use std::io::ErrorKind;
+use tk_console::refusal::{Reason, Refusal};
 
 /// The arguments, beginning with the name of the program.
 ///

@@ -1,11 +1,11 @@
 //! Checks the output file of `solve` before the search.
-use crate::file_id::{FileId, id_of};
-use crate::named::Named;
 use crate::output::find_place;
-use crate::refusal::{KeyMisfit, Reason, Refusal};
-use crate::report;
-use crate::search::Search;
 use std::fs;
+use tk_console::file_id::{FileId, id_of};
+use tk_console::named::Named;
+use tk_console::refusal::{KeyMisfit, Reason, Refusal};
+use tk_console::report;
+use tk_console::search::Search;
 use tk_params::Key;
 
 /// The files that `solve` reads, as far as they are regular files.

@@ -1,11 +1,11 @@
 //! The subcommand `check`, and what it has in common with `checksol`.
-use crate::input::{Input, open, open_two, problem_in};
-use crate::objects::tour_object;
-use crate::printed::{print_judged, print_name};
-use crate::refusal::{Misfit, Reason, Refusal};
-use crate::report::end_one;
 use std::alloc::Global;
 use std::process::ExitCode;
+use tk_console::input::{Input, open, open_two, problem_in};
+use tk_console::objects::tour_object;
+use tk_console::printed::{print_judged, print_name};
+use tk_console::refusal::{Misfit, Reason, Refusal};
+use tk_console::report::end_one;
 use tk_engines::{Fault, TourOutcome, tour_outcome, tour_outcome_of, write_tour_outcome};
 use tk_problem::Problem;
 use tk_tour::Verdict;

@@ -1,10 +1,10 @@
 //! The subcommand `checksol`.
 use crate::commands::check::{Checked, FOUND};
-use crate::input::Input;
-use crate::objects::route_object;
-use crate::printed::{print_judged, print_name};
-use crate::refusal::Refusal;
 use std::alloc::Global;
+use tk_console::input::Input;
+use tk_console::objects::route_object;
+use tk_console::printed::{print_judged, print_name};
+use tk_console::refusal::Refusal;
 use tk_engines::{Fault, route_outcome, route_outcome_of, write_route_verdict};
 use tk_problem::Problem;
 use tk_routes::RouteVerdict;

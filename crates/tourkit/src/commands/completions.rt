@@ -1,9 +1,9 @@
 //! The option `--completions`.
 use crate::embedded::completions::{BASH, FISH, ZSH};
-use crate::printed::print_bytes;
-use crate::refusal::Refusal;
 use std::process::ExitCode;
 use tk_command_line::Shell;
+use tk_console::printed::print_bytes;
+use tk_console::refusal::Refusal;
 
 /// `--completions SHELL`.
 ///

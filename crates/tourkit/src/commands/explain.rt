@@ -1,11 +1,11 @@
 //! The subcommand `explain`.
 use crate::explained_text::{ReadFailure, read_explained};
-use crate::input::open;
-use crate::printed::print_bytes;
-use crate::refusal::{Misfit, Reason, Refusal};
-use crate::shown::shown_on_output;
 use std::fs;
 use std::process::ExitCode;
+use tk_console::input::open;
+use tk_console::printed::print_bytes;
+use tk_console::refusal::{Misfit, Reason, Refusal};
+use tk_console::shown::shown_on_output;
 use tk_diagnosis::FileFault;
 use tk_explain::{fault_page, file_page, is_number, line_page, read_failure};
 use tk_kinds::kind_of;

@@ -1,9 +1,9 @@
 //! The subcommand `info`.
-use crate::info_object::InfoObject;
-use crate::input::open;
-use crate::printed::{Unprinted, print_json};
-use crate::refusal::Refusal;
 use std::process::ExitCode;
+use tk_console::info_object::InfoObject;
+use tk_console::input::open;
+use tk_console::printed::{Unprinted, print_json};
+use tk_console::refusal::Refusal;
 use tk_engines::{ProblemInfo, info_outcome, write_info};
 use tk_words::FromRead;
 use tk_writers::ToWrite;

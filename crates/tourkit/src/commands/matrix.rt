@@ -2,10 +2,10 @@
 ghost use Rattle.std.specs.Prelude.{◌≤◌};
 ghost use Rattle.tk_problem.specs.declared.limits.TheConstants.{TABLE_LIMIT};
 
-use crate::input::open;
-use crate::refusal::{Refusal, USAGE};
-use crate::rows::write_matrix_object;
 use std::process::ExitCode;
+use tk_console::input::open;
+use tk_console::refusal::{Refusal, USAGE};
+use tk_console::rows::write_matrix_object;
 use tk_engines::{matrix_outcome, write_matrix_of};
 use tk_problem::{Format, Problem};
 use tk_words::FromRead;

@@ -1,8 +1,8 @@
 //! The subcommand `near`.
-use crate::input::open;
-use crate::refusal::Refusal;
-use crate::rows::write_near_object;
 use std::process::ExitCode;
+use tk_console::input::open;
+use tk_console::refusal::Refusal;
+use tk_console::rows::write_near_object;
 use tk_engines::{near_outcome, write_near_lists};
 use tk_near::{ListLength, Near};
 use tk_words::FromRead;

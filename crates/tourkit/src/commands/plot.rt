@@ -4,13 +4,13 @@ ghost use Rattle.tk_problem.specs.declared.limits.TheConstants.{CITY_LIMIT};
 
 use crate::commands::plot_both::plot_both;
 use crate::commands::{check, checksol};
-use crate::input::{open, open_two};
-use crate::names::names_in;
-use crate::refusal::{Reason, Refusal};
 use std::process::ExitCode;
 use tk_command_line::PlotFiles;
-use tk_engines::{NodeName, NodeNames, OutputFormat, Plotted, plot_engine};
+use tk_console::input::{open, open_two};
+use tk_console::names::names_in;
+use tk_console::refusal::{Reason, Refusal};
 use tk_page::page_parts;
+use tk_plot::{NodeName, NodeNames, OutputFormat, Plotted, plot_engine};
 use tk_words::{FromRead, Source};
 use tk_writers::ToWrite;
 

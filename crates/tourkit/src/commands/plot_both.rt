@@ -1,13 +1,14 @@
 //! `plot --html` with two tours or solutions: a page with a frame for the page of each.
 use crate::commands::plot::status_of;
 use crate::embedded::compare::{HEAD, SCRIPT, STYLE};
-use crate::input::open;
-use crate::printed::Unprinted;
-use crate::refusal::{Reason, Refusal};
-use crate::shown::shown_name;
 use std::io::Write;
 use std::process::ExitCode;
-use tk_engines::{Fault, OutputFormat, plot_problem};
+use tk_console::input::open;
+use tk_console::printed::Unprinted;
+use tk_console::refusal::{Reason, Refusal};
+use tk_console::shown::shown_name;
+use tk_engines::Fault;
+use tk_plot::{OutputFormat, plot_problem};
 use tk_problem_text::{PlacedProblem, read_placed_problem};
 use tk_words::FromRead;
 use tk_writers::{Pen, Sink, ToWrite};

@@ -1,10 +1,10 @@
 //! A search that options request, without a parameter file.
 
-use crate::input::path_of;
-use crate::refusal::{Reason, Refusal};
 use std::fs::File;
 use std::io::Read;
 use tk_command_line::SearchOptions;
+use tk_console::input::path_of;
+use tk_console::refusal::{Reason, Refusal};
 use tk_kinds::{Kind, begins_with_key, kind_of};
 use tk_params::{Key, ParamKind, SearchBuilder, SearchSettings};
 

@@ -1,10 +1,10 @@
 //! The search of `solve`, by the type of its problem.
-use crate::input::Input;
-use crate::named::Named;
-use crate::search::{Requester, Search};
 use crate::watching::SearchWatch;
 use std::alloc::Global;
 use tk_command_line::SearchOptions;
+use tk_console::input::Input;
+use tk_console::named::Named;
+use tk_console::search::{Requester, Search};
 use tk_engines::{Fault, SearchOutcome, search_between, search_problem, unfit_key};
 use tk_lists::{read_solution, read_tour};
 use tk_params::SearchSettings;

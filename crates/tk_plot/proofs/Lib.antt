@@ -1,0 +1,2 @@
+pub mod ClaimsPlotted
+pub mod DrawnOutcomes
